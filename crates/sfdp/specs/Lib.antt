@@ -1,0 +1,3 @@
+pub mod Times
+pub mod Jesd216
+pub mod Chosen
