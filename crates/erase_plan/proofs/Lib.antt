@@ -1,0 +1,12 @@
+pub mod Lists
+pub mod Multiples
+pub mod Ordering
+pub mod Slots
+pub mod Choice
+pub mod Steps
+pub mod Entries
+pub mod Planned
+pub mod Walks
+pub mod Spans
+pub mod Examples
+pub mod Instances

@@ -1,0 +1,5 @@
+pub mod Types
+pub mod Plan
+pub mod Span
+pub mod Good
+pub mod Passing
