@@ -1,0 +1,12 @@
+pub mod Examples
+pub mod Hosts
+pub mod Endings
+pub mod Sending
+pub mod Parts
+pub mod Checks
+pub mod Within
+pub mod Rooms
+pub mod Gathering
+pub mod Tables
+pub mod Left
+pub mod Instances

@@ -1,0 +1,88 @@
+-- How many transactions a command takes at most, whatever the replies; that it ends; and its polls: the statements.
+use mathlib.Core.Path.{_≡_}
+use mathlib.Core.Bool.{cond}
+use mathlib.Core.List.{List}
+use mathlib.Core.Option.{some}
+use Prim.Native.Nat.{ℕ, _+_, _-_, _*_, _/_, _≤_}
+use lib.Dec.{eqb}
+use lib.ListN.{length}
+use Rattle.settings.specs.Limits.{pageOf}
+use Rattle.erase_plan.specs.declared.EraseEntry.{EraseEntry}
+use Rattle.erase_plan.specs.Span.{spanStart, spanEnd}
+use Rattle.commands.specs.declared.Answer.{Answer}
+use Rattle.commands.specs.Script.{Sent, Kept, Script}
+use Rattle.commands.specs.Host.{Reply, Outcome, tree, play, pollsIn, Sends}
+use Rattle.commands.specs.Transactions.{parts}
+use Rattle.commands.specs.Commands.{planOf, Job, written, erasing}
+use Rattle.commands.specs.Calls.{Call, Read, LegacyRead, ReadParams, Erase, EraseSectors, Program, ProgramData, Reset, ReadJedecId, IsBusy, IsProtected, script}
+
+-- any transaction at all
+abbrev pub Any : Sent → Type 0
+Any s = Unit {0}
+
+-- at most n transactions, whatever the replies
+abbrev pub Within : {A : Type 0} → ℕ → Script A → Type 0
+Within n c = Sends Any n c
+
+-- ---- the numbers of document 01
+abbrev pub limit : Kept → ℕ
+limit w = w .settings .«poll_limit»
+
+-- E: the entries of the plan for n bytes from a on
+abbrev pub entries : Kept → ℕ → ℕ → ℕ
+entries w a n = length (planOf w a (a + n))
+
+-- the pages that n bytes from a on touch: from that of the first byte to that of the last
+unfoldable pub pages : ℕ → ℕ → ℕ → ℕ
+pages page a n = cond (eqb n 0) 0 ((a + n - 1) / page - a / page + 1)
+
+-- W: by the page size of the settings
+abbrev pub pagesOf : Kept → ℕ → ℕ → ℕ
+pagesOf w a n = pages (pageOf (w .settings)) a n
+
+-- W of a program: the pages of its span
+abbrev pub spanPages : Kept → ℕ → ℕ → ℕ
+spanPages w a n =
+    pagesOf w (spanStart (planOf w a (a + n))) (spanEnd (planOf w a (a + n)) - spanStart (planOf w a (a + n)))
+
+-- the most that each command takes
+abbrev pub most : Call → Kept → ℕ
+most (Read a n) w = 1
+most (LegacyRead a n) w = 1
+most ReadParams w = 3
+most Erase w = 2 + limit w
+most (EraseSectors a n) w = entries w a n * (2 + limit w)
+most (Program a d v) w = 4 + (entries w a (length d) + spanPages w a (length d)) * (2 + limit w)
+most (ProgramData a d) w = pagesOf w a (length d) * (2 + limit w)
+most Reset w = 2
+most ReadJedecId w = 2
+most IsBusy w = 1
+most IsProtected w = 1
+
+-- ---- the statements
+-- every command keeps to it
+abbrev pub Bounded : Type 0
+Bounded = (c : Call) (w : Kept) → Within (most c w) (script c w)
+
+-- so does what a host sends
+abbrev pub BoundedHost : Type 0
+BoundedHost = (c : Call) (w : Kept) (rs : List Reply) → length (play (tree 0 (script c w)) rs .0) ≤ most c w
+
+-- a host with as many replies comes to an outcome
+abbrev pub ComesToEnd : Type 0
+ComesToEnd = (c : Call) (w : Kept) (rs : List Reply) → most c w ≤ length rs → (o : Outcome) × (play (tree 0 (script c w)) rs .1 ≡ some o)
+
+-- a program whose reads are done: W is the pages of the bytes that are written, by the room as it then is
+abbrev pub BoundedErasing : Type 0
+BoundedErasing =
+    (J : Job) (es : List EraseEntry) (w : Kept)
+    → Within (2 + (length es + pagesOf w (J .base) (written (J .end - J .base) (J .last - J .base) (w .room))) * (2 + limit w)) (erasing J es w)
+
+-- bytes are written in as many parts as they touch pages
+abbrev pub PartsArePages : Type 0
+PartsArePages = (page a n : ℕ) → 1 ≤ page → length (parts page a 0 n) ≡ pages page a n
+
+-- every script: the answer's polls are those of the transaction list
+abbrev pub PollsCounted : Type 0
+PollsCounted =
+    (c : Script Answer) (rs : List Reply) (o : Outcome) → play (tree 0 c) rs .1 ≡ some o → o .polls ≡ pollsIn (play (tree 0 c) rs .0)

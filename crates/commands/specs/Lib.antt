@@ -1,0 +1,9 @@
+pub mod Answers
+pub mod Script
+pub mod Host
+pub mod Transactions
+pub mod Commands
+pub mod Calls
+pub mod Bounds
+pub mod Leaves
+pub mod Wire

@@ -1,0 +1,4 @@
+pub mod Found
+pub mod Filled
+pub mod Types
+pub mod Laws
