@@ -9,6 +9,7 @@ use std::time::{Duration, Instant};
 extern "C" {
     fn mg_bench_sfdp_shared(minor: u8, plen: u8, data: *const u8, len: usize) -> u64;
     fn mg_bench_sfdp(minor: u8, plen: u8, data: *const u8, len: usize) -> u64;
+    fn mg_bench_plan(small: u32, middle: u32, large: u32, last: u32) -> u64;
 }
 
 fn main() {
@@ -20,11 +21,14 @@ fn main() {
         agree(list, |t| rust_sfdp(t, micros), ours_sfdp_shared);
         agree(list, |t| rust_sfdp(t, micros).wrapping_add(own_fields(t)), ours_sfdp);
     }
+    agree(&PLANS, rust_plan, ours_plan);
     println!("{:<34} {:>6}   {}", "name", "ratio", "spread");
     compare("sfdp table, mx66l1g45g", &part, |t| rust_sfdp(t, parts), ours_sfdp);
     compare("sfdp table, a mix", &tables, |t| rust_sfdp(t, parts), ours_sfdp);
     compare("the same part, the Rust's fields", &part, |t| rust_sfdp(t, parts), ours_sfdp_shared);
     compare("the same mix, the Rust's fields", &tables, |t| rust_sfdp(t, parts), ours_sfdp_shared);
+    compare("plan of 16 MiB, three types", &PLANS[..1], rust_plan, ours_plan);
+    compare("plan of 16 MiB less 1, three types", &PLANS[1..], rust_plan, ours_plan);
 }
 
 // ---------------------------------------------------------------- measuring
@@ -72,6 +76,22 @@ fn compare<I>(name: &str, inputs: &[I], rust: impl Fn(&I) -> u64, ours: impl Fn(
     ratios.sort_by(|a, b| a.partial_cmp(b).unwrap());
     let (least, greatest) = (ratios[0], ratios[ROUNDS - 1]);
     println!("{:<34} {:>6.2}   {:.2} to {:.2}", name, ratios[ROUNDS / 2], least, greatest);
+}
+
+// ---------------------------------------------------------------- plans
+
+/// The length of the range, which starts at 0. The types are 4, 32 and 64 KiB.
+const PLANS: [usize; 2] = [16_777_216, 16_777_215];
+
+fn rust_plan(length: &usize) -> u64 {
+    let insts = [(65_536, 0xD8, None), (4_096, 0x20, None), (32_768, 0x52, None)];
+    spi_flash::probe::plan(&insts, *length, |opcode, size, base| {
+        then(opcode as u64, then(size as u64, then(base as u64, 0)))
+    })
+}
+
+fn ours_plan(length: &usize) -> u64 {
+    unsafe { mg_bench_plan(4_096, 32_768, 65_536, (*length - 1) as u32) }
 }
 
 // ---------------------------------------------------------------- SFDP tables: the inputs

@@ -1,5 +1,9 @@
 // What tools/bench calls: each function runs a proved function and folds its result into one number, so that nothing
 // of it is left out. For the benchmark alone. tools/bench/bench.rs folds the Rust's results by the same rules.
+use erase_plan::EraseEntry;
+use erase_plan::EraseType;
+use erase_plan::EraseTypes;
+use erase_plan::Next;
 use sfdp::FlashParams;
 use sfdp::ReadParams;
 use sfdp::SFDPAddressBytes;
@@ -166,4 +170,74 @@ pub extern "C" fn mg_bench_sfdp(minor: u8, plen: u8, data: &[u8]) -> u64 {
         ReadParams::Params(p) => sum(fold_shared(p), fold_own(p)),
         ReadParams::InvalidSFDPParams => 4,
     }
+}
+
+// ---- plans
+
+fn type_of(size: u32, opcode: u8) -> EraseType {
+    EraseType {
+        size: size,
+        opcode: opcode,
+        timed: false,
+        time: 0,
+    }
+}
+
+fn fold_entry(e: EraseEntry) -> u64 {
+    then(
+        byte(e.opcode),
+        then(word(e.size), then(word(e.base), word(e.time))),
+    )
+}
+
+// A walk along a plan: whether it goes on, from where, and the entries so far, folded.
+pub struct Walk {
+    pub going: bool,
+    pub at: u32,
+    pub folded: u64,
+}
+
+fn turn(ts: EraseTypes, last: u32, w: Walk) -> Walk {
+    match erase_plan::next_entry(ts, w.at, last) {
+        Next::Nothing => Walk {
+            going: false,
+            at: w.at,
+            folded: w.folded,
+        },
+        Next::Entry { entry, stop } => Walk {
+            going: stop != last,
+            at: std::num::wrapping_add_u32(stop, 1),
+            folded: sum(w.folded, fold_entry(entry)),
+        },
+    }
+}
+
+fn walked(ts: EraseTypes, at: u32, last: u32) -> u64 {
+    let mut w = Walk {
+        going: true,
+        at: at,
+        folded: 0,
+    };
+    let mut turns: u64 = 0x1_0000_0000;
+    while turns > 0 {
+        if w.going {
+            w = turn(ts, last, w);
+            turns -= 1;
+        } else {
+            turns = 0;
+        }
+    }
+    w.folded
+}
+
+// A plan from address 0 to a last address with three types, entry by entry.
+#[no_mangle]
+pub extern "C" fn mg_bench_plan(small: u32, middle: u32, large: u32, last: u32) -> u64 {
+    let ts = erase_plan::sorted(
+        type_of(large, 0xD8),
+        type_of(small, 0x20),
+        type_of(middle, 0x52),
+        type_of(0, 0),
+    );
+    walked(ts, 0, last)
 }

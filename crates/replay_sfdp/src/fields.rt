@@ -1,6 +1,7 @@
 // The fields of the parameters against the 128 bytes of a record.
 use dwords::byte_at;
 use dwords::number_at;
+use settings::Settings;
 use sfdp::FlashParams;
 use sfdp::SFDPAddressBytes;
 use sfdp::SFDPEraseInst;
@@ -66,12 +67,23 @@ pub fn same_volatility(p: FlashParams, want: &[u8]) -> bool {
     }
 }
 
-// The opcode of the smallest type.
+// The opcode of the smallest type, and the erase opcode of the settings afterwards.
 pub fn same_sector(p: FlashParams, want: &[u8]) -> bool {
+    let s = Settings::new().update(p);
     match p.sector_erase() {
-        SectorErase::Smallest(_, opcode) => is8(want, 40, opcode),
-        SectorErase::Nothing => is8(want, 40, 0),
+        SectorErase::Smallest(_, opcode) => is8(want, 40, opcode) & is8(want, 123, s.erase_opcode),
+        SectorErase::Nothing => is8(want, 40, 0) & is8(want, 123, s.erase_opcode),
     }
+}
+
+// The other settings afterwards, from a fresh start.
+fn same_settings(p: FlashParams, want: &[u8]) -> bool {
+    let s = Settings::new().update(p);
+    is8(want, 122, s.address_bytes)
+        & is32(want, 124, s.erase_size as u64)
+        & s.capacity_set
+        & is64(want, 24, 28, s.capacity)
+        & is32(want, 32, s.page_size as u64)
 }
 
 fn same_sector_size(p: FlashParams, want: &[u8]) -> bool {
@@ -148,4 +160,5 @@ pub fn same(p: FlashParams, want: &[u8]) -> bool {
         & same_timing(t, want)
         & same_extended(p, want)
         & same_sector_size(p, want)
+        & same_settings(p, want)
 }

@@ -67,6 +67,55 @@ fn parts(fd: i32) -> Totals {
     parts_in(&buf[..n], judge::none())
 }
 
+// How many of the areas get each answer.
+pub struct Answers {
+    pub done: u64,
+    pub a3: u64,
+    pub a4: u64,
+    pub a12: u64,
+}
+
+fn add_answer(t: Answers, area: &[u8]) -> Answers {
+    let mut now = t;
+    match sfdp::read_area(area).number() {
+        0 => {
+            now.done = std::num::wrapping_add_u64(now.done, 1);
+        }
+        3 => {
+            now.a3 = std::num::wrapping_add_u64(now.a3, 1);
+        }
+        4 => {
+            now.a4 = std::num::wrapping_add_u64(now.a4, 1);
+        }
+        _ => {
+            now.a12 = std::num::wrapping_add_u64(now.a12, 1);
+        }
+    }
+    now
+}
+
+// Every prefix of some bytes, the empty one and the whole among them.
+fn prefixes(s: &[u8]) -> Answers {
+    let mut t = Answers {
+        done: 0,
+        a3: 0,
+        a4: 0,
+        a12: 0,
+    };
+    let mut n: usize = 0;
+    while n < s.len() {
+        t = add_answer(t, &s[0..n]);
+        n += 1;
+    }
+    add_answer(t, s)
+}
+
+fn cut_short(fd: i32) -> Answers {
+    let mut buf = [0u8; 1024];
+    let n = io::read_full(fd, &mut buf);
+    prefixes(&buf[..n])
+}
+
 fn line(text: &[u8], n: u64) {
     io::write_all(STDOUT_FILENO, text);
     io::print_decimal(STDOUT_FILENO, n);
@@ -112,4 +161,24 @@ fn main() {
     io::write_all(STDOUT_FILENO, b"Real parts, parts.bin\n");
     line(b"agree in every field: ", r.same);
     line(b"differ: ", r.differ);
+    let fd3 = os::open_read(real);
+    if fd3 < 0 {
+        os::fail(real);
+        return;
+    }
+    let a = cut_short(fd3);
+    libc::close(fd3);
+    io::write_all(
+        STDOUT_FILENO,
+        b"Every prefix of the first 1,024 bytes of parts.bin\n",
+    );
+    line(b"parameters: ", a.done);
+    line(b"answer 12: ", a.a12);
+    line(b"answer 3: ", a.a3);
+    line(b"answer 4: ", a.a4);
+    let large = io::large_buffer();
+    line(
+        b"65,536 zero bytes, answer: ",
+        sfdp::read_area(&large).number() as u64,
+    );
 }

@@ -152,6 +152,10 @@ unfoldable pub params : ℕ → ℕ → List ℕ → FlashParams
 params minor n t =
     fields minor (extended minor n) (dword t 1) (dword t 2) (dword t 8) (dword t 9) (dword t 10) (dword t 11) (dword t 14) (dword t 16)
 
+-- no parameters: what stands in their place until some were read, the fields of dwords that are 0
+abbrev pub noParams : FlashParams
+noParams = fields 0 false 0 0 0 0 0 0 0 0
+
 -- refusal 4: fewer than 9 dwords; an exponent of 32 or more where the opcode is not 0; a density exponent of 64 or more
 unfoldable pub sizeFits : ℕ → ℕ → Bool
 sizeFits exponent opcode = eqb opcode 0 || ltb exponent 32

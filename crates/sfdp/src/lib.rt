@@ -6,7 +6,7 @@ ghost use lib.Dec.{eqb};
 ghost use Prim.Native.Nat.{_^_, _<_};
 ghost use lib.ListN.{drop};
 ghost use Rattle.sfdp.specs.Times.{maximum, eraseTime, pageTime, byteTime, chipTime};
-ghost use Rattle.sfdp.specs.Jesd216.{signed, headers, parameterHeader, basic, readHeader, addressBytes, density, noType, eraseType, eraseTypes, timing, rawTimes, volatility, extended, fields, params, sizeFits, sizesFit, densityFits, accepted, readTable, readArea, answerNumber};
+ghost use Rattle.sfdp.specs.Jesd216.{signed, headers, parameterHeader, basic, readHeader, addressBytes, density, noType, eraseType, eraseTypes, timing, rawTimes, volatility, extended, fields, noParams, params, sizeFits, sizesFit, densityFits, accepted, readTable, readArea, answerNumber};
 ghost use Rattle.sfdp.specs.Chosen.{capacity, lesser, smallest, sectorErase};
 use dwords::byte_at;
 use dwords::dword_at;
@@ -528,6 +528,13 @@ impl FlashParams {
         } else {
             ReadParams::InvalidSFDPParams
         }
+    }
+
+    // What stands in the place of parameters until some were read.
+    pub fn none() -> FlashParams
+        ensures { λ r. ⌜ r ≡ noParams ⌝ }
+    {
+        FlashParams::of_dwords(0, false, 0, 0, 0, 0, 0, 0, 0, 0)
     }
 
     // The flash capacity in bytes.
