@@ -1,0 +1,118 @@
+use Rattle.flash.specs.Waits.{needOf}
+use borrow.Author.Needs.{needs}
+use Rattle.flash.proofs.need_of.Statement.{statement}
+use Rattle.flash.proofs.need_of.Tie as tie
+use Rattle.flash.proofs.need_of.Reads as reads
+use Rattle.flash.proofs.need_of.Lts as lts
+use Rattle.flash.proofs.erase_need.Reads as erase-need-reads
+use Rattle.flash.proofs.poll_need.Reads as poll-need-reads
+use Rattle.flash.proofs.read_need.Reads as read-need-reads
+use Rattle.flash.proofs.verify_need.Reads as verify-need-reads
+use Rattle.flash.proofs.write_need.Reads as write-need-reads
+
+-- src/lib.rt:443:26
+enum-known-p : tie.Need-enum-known-p
+enum-known-p c = search needs
+
+-- src/lib.rt:443:39
+read-need-requires : tie.Need-read-need-requires
+read-need-requires c κs = search needs
+
+-- src/lib.rt:444:26
+enum-known-p-2 : tie.Need-enum-known-p-2
+enum-known-p-2 c = search needs
+
+-- src/lib.rt:444:51
+erase-need-requires : tie.Need-erase-need-requires
+erase-need-requires c κs = search needs
+
+-- src/lib.rt:445:26
+enum-known-p-3 : tie.Need-enum-known-p-3
+enum-known-p-3 c = search needs
+
+-- src/lib.rt:445:51
+write-need-requires : tie.Need-write-need-requires
+write-need-requires c κs = search needs
+
+-- src/lib.rt:446:26
+enum-known-p-4 : tie.Need-enum-known-p-4
+enum-known-p-4 c = search needs
+
+-- src/lib.rt:446:48
+poll-need-requires : tie.Need-poll-need-requires
+poll-need-requires c κs = search needs
+
+-- src/lib.rt:447:28
+enum-known-p-5 : tie.Need-enum-known-p-5
+enum-known-p-5 c = search needs
+
+-- src/lib.rt:447:41
+verify-need-requires : tie.Need-verify-need-requires
+verify-need-requires c κs = search needs
+
+-- src/lib.rt:448:44
+enum-told : tie.Need-enum-told
+enum-told c = search needs
+
+-- src/lib.rt:449:51
+enum-told-2 : tie.Need-enum-told-2
+enum-told-2 c = search needs
+
+-- src/lib.rt:439:1
+returns : tie.Need-returns
+unfolding needOf
+returns c = rw (c .read-need .ensures, c .before .before .p .given .1)
+
+-- src/lib.rt:439:1
+returns-2 : tie.Need-returns-2
+unfolding needOf
+returns-2 c = rw (c .erase-need .ensures, c .before .before .p2 .given .1)
+
+-- src/lib.rt:439:1
+returns-3 : tie.Need-returns-3
+unfolding needOf
+returns-3 c = rw (c .write-need .ensures, c .before .before .p3 .given .1)
+
+-- src/lib.rt:439:1
+returns-4 : tie.Need-returns-4
+unfolding needOf
+returns-4 c = rw (c .poll-need .ensures, c .before .before .p4 .given .1)
+
+-- src/lib.rt:439:1
+returns-5 : tie.Need-returns-5
+unfolding needOf
+returns-5 c = rw (c .verify-need .ensures, c .before .before .p5 .given .1)
+
+-- src/lib.rt:439:1
+returns-6 : tie.Need-returns-6
+unfolding needOf
+returns-6 c = search needs
+
+-- src/lib.rt:439:1
+returns-7 : tie.Need-returns-7
+unfolding needOf
+returns-7 c = search needs
+
+pub need-of-spec : {M : Type 1} → statement M
+need-of-spec =
+    tie.close
+    (tie.spec
+    enum-known-p
+    read-need-requires
+    enum-known-p-2
+    erase-need-requires
+    enum-known-p-3
+    write-need-requires
+    enum-known-p-4
+    poll-need-requires
+    enum-known-p-5
+    verify-need-requires
+    enum-told
+    enum-told-2
+    returns
+    returns-2
+    returns-3
+    returns-4
+    returns-5
+    returns-6
+    returns-7)

@@ -1,0 +1,56 @@
+use Rattle.flash.specs.Waits.{pollNeed}
+use borrow.Author.Needs.{needs}
+use Rattle.flash.proofs.poll_need.Statement.{statement}
+use Rattle.flash.proofs.poll_need.Tie as tie
+use Rattle.flash.proofs.poll_need.Reads as reads
+use Rattle.flash.proofs.poll_need.Lts as lts
+use Rattle.flash.proofs.erase_need.Reads as erase-need-reads
+use Rattle.flash.proofs.write_need.Reads as write-need-reads
+
+-- src/lib.rt:423:30
+enum-told : tie.Need-enum-told
+enum-told c = search needs
+
+-- src/lib.rt:424:28
+enum-known-c : tie.Need-enum-known-c
+enum-known-c c = search needs
+
+-- src/lib.rt:424:34
+erase-need-requires : tie.Need-erase-need-requires
+erase-need-requires c κs = search needs
+
+-- src/lib.rt:425:28
+enum-known-c-2 : tie.Need-enum-known-c-2
+enum-known-c-2 c = search needs
+
+-- src/lib.rt:425:34
+write-need-requires : tie.Need-write-need-requires
+write-need-requires c κs = search needs
+
+-- src/lib.rt:419:1
+returns : tie.Need-returns
+unfolding pollNeed
+returns c = search needs
+
+-- src/lib.rt:419:1
+returns-2 : tie.Need-returns-2
+unfolding pollNeed
+returns-2 c = rw (c .erase-need .ensures, c .before .before .c .given .1)
+
+-- src/lib.rt:419:1
+returns-3 : tie.Need-returns-3
+unfolding pollNeed
+returns-3 c = rw (c .write-need .ensures, c .before .before .c2 .given .1)
+
+pub poll-need-spec : {M : Type 1} → statement M
+poll-need-spec =
+    tie.close
+    (tie.spec
+    enum-told
+    enum-known-c
+    erase-need-requires
+    enum-known-c-2
+    write-need-requires
+    returns
+    returns-2
+    returns-3)

@@ -1,0 +1,33 @@
+use Rattle.flash.specs.Steps.{verifyOn}
+use borrow.Author.Needs.{needs}
+use Rattle.flash.proofs.step.verify_on.Statement.{statement}
+use Rattle.flash.proofs.step.verify_on.Tie as tie
+use Rattle.flash.proofs.step.verify_on.Reads as reads
+use Rattle.flash.proofs.step.verify_on.Lts as lts
+use Rattle.flash.proofs.step.compared.Reads as compared-reads
+
+-- src/step.rt:48:32
+enum-known-c : tie.Need-enum-known-c
+enum-known-c c = search needs
+
+-- src/step.rt:48:44
+compared-requires : tie.Need-compared-requires
+compared-requires c κs = search needs
+
+-- src/step.rt:49:29
+enum-known-c-2 : tie.Need-enum-known-c-2
+enum-known-c-2 c = search needs
+
+-- src/step.rt:44:1
+returns : tie.Need-returns
+unfolding verifyOn
+returns c = rw (c .compared .ensures, c .before .before .c .given .1)
+
+-- src/step.rt:44:1
+returns-2 : tie.Need-returns-2
+unfolding verifyOn
+returns-2 c = rw (c .before .c2 .given .1)
+
+pub verify-on-spec : {M : Type 1} → statement M
+verify-on-spec =
+    tie.close (tie.spec enum-known-c compared-requires enum-known-c-2 returns returns-2)

@@ -1,0 +1,156 @@
+// What a read's reply leads to.
+ghost use mathlib.Core.Path.{_≡_};
+ghost use Rattle.commands.specs.Commands.{idAt, firstId};
+ghost use Rattle.flash.specs.Steps.{goes, ends, toAfter, toBefore, withHeader, withTable, readOn, readRoom};
+use crate::Command;
+use crate::EraseCommand;
+use crate::Job;
+use crate::Phase;
+use crate::ReadCommand;
+use crate::Session;
+use commands::Answer;
+use dwords::byte_at;
+use sfdp::FlashParams;
+use sfdp::ReadHeader;
+use sfdp::ReadParams;
+
+// The session ended, with so many polls.
+pub fn ended(s: Session, n: u64, c: Command, a: Answer) -> Session
+    ensures { λ r. ⌜ r ≡ ends s n c a ⌝ }
+{
+    s.goes(
+        Phase::Ended {
+            command: c,
+            answer: a,
+        },
+        n,
+    )
+}
+
+pub fn reading(s: Session, n: u64, c: ReadCommand) -> Session
+    ensures { λ r. ⌜ r ≡ goes s n (Phase.Reading c) ⌝ }
+{
+    s.goes(Phase::Reading { command: c }, n)
+}
+
+// A program goes on after the bytes before its data were read.
+pub fn to_after(job: Job) -> Phase
+    ensures { λ r. ⌜ r ≡ toAfter job ⌝ }
+{
+    if job.last < job.top {
+        Phase::Reading {
+            command: ReadCommand::After(job),
+        }
+    } else {
+        Phase::Erasing {
+            command: EraseCommand::Program(job, job.from),
+            enabled: false,
+        }
+    }
+}
+
+// A program's first phase.
+pub fn to_before(job: Job) -> Phase
+    ensures { λ r. ⌜ r ≡ toBefore job ⌝ }
+{
+    if job.base < job.from {
+        Phase::Reading {
+            command: ReadCommand::Before(job),
+        }
+    } else {
+        to_after(job)
+    }
+}
+
+fn with_header(s: Session, n: u64, h: ReadHeader) -> Session
+    ensures { λ r. ⌜ r ≡ withHeader s n h ⌝ }
+{
+    match h {
+        ReadHeader::NoSFDP => ended(s, n, Command::Other, Answer::NoSFDP),
+        ReadHeader::InvalidSFDPHeader => ended(s, n, Command::Other, Answer::InvalidSFDPHeader),
+        ReadHeader::Header(p) => reading(s, n, ReadCommand::Table(p.minor, p.plen, p.ptp)),
+    }
+}
+
+// The session with new parameters, its settings by them, and the answer Done.
+fn adopted(s: Session, n: u64, p: FlashParams) -> Session
+    ensures { λ r. ⌜ r ≡ withTable s n (ReadParams.Params p) ⌝ }
+{
+    let old = s.settings;
+    Session {
+        settings: old.update(p),
+        known: true,
+        params: p,
+        phase: Phase::Ended {
+            command: Command::Other,
+            answer: Answer::Done,
+        },
+        polls: n,
+    }
+}
+
+fn with_table(s: Session, n: u64, t: ReadParams) -> Session
+    ensures { λ r. ⌜ r ≡ withTable s n t ⌝ }
+{
+    match t {
+        ReadParams::InvalidSFDPParams => ended(s, n, Command::Other, Answer::InvalidSFDPParams),
+        ReadParams::Params(p) => adopted(s, n, p),
+    }
+}
+
+fn id_at(at: u8, reply: &[u8]) -> Answer
+    ensures { λ r. ⌜ r ≡ idAt at (now (reply .entry)) ⌝ }
+{
+    let i = at as usize;
+    let high = byte_at(reply, i + 1) as u16;
+    let low = byte_at(reply, i + 2) as u16;
+    Answer::DoneId(at, byte_at(reply, i), 256 * high + low)
+}
+
+// The first of bytes 1 to 13 that is not 7F, with the two after it.
+fn first_id(reply: &[u8]) -> Answer
+    ensures { λ r. ⌜ r ≡ firstId 13 1 (now (reply .entry)) ⌝ }
+{
+    let mut at: u8 = 1;
+    while at < 14 {
+        if byte_at(reply, at as usize) != 0x7F {
+            return id_at(at, reply);
+        }
+        at += 1;
+    }
+    Answer::InvalidManufacturer
+}
+
+// The session after a read's full reply.
+pub fn read_on(s: Session, n: u64, c: ReadCommand, reply: &[u8]) -> Session
+    ensures { λ r. ⌜ r ≡ readOn s n c (now (reply .entry)) ⌝ }
+{
+    match c {
+        ReadCommand::Read(_, _, _) => ended(s, n, Command::Other, Answer::Done),
+        ReadCommand::Header => reading(s, n, ReadCommand::Headers(byte_at(reply, 6))),
+        ReadCommand::Headers(_) => with_header(s, n, sfdp::read_header(reply)),
+        ReadCommand::Table(minor, plen, _) => {
+            with_table(s, n, FlashParams::from_bytes(minor, plen, reply))
+        }
+        ReadCommand::Before(job) => s.goes(to_after(job), n),
+        ReadCommand::After(job) => s.goes(
+            Phase::Erasing {
+                command: EraseCommand::Program(job, job.from),
+                enabled: false,
+            },
+            n,
+        ),
+        ReadCommand::Id => {
+            if byte_at(reply, 0) == 0x7F {
+                reading(s, n, ReadCommand::IdAgain)
+            } else {
+                ended(s, n, Command::Other, id_at(0, reply))
+            }
+        }
+        ReadCommand::IdAgain => ended(s, n, Command::Other, first_id(reply)),
+        ReadCommand::Protected => {
+            let status = byte_at(reply, 0);
+            ended(s, n, Command::Other, Answer::DoneBool(status / 4 % 8 != 0))
+        }
+    }
+}

@@ -1,0 +1,11 @@
+pub mod Rest
+pub mod Unroll
+pub mod Stepping
+pub mod Going
+pub mod Reading
+pub mod Working
+pub mod Fitting
+pub mod Follows
+pub mod Spanning
+pub mod Starting
+pub mod Promises
