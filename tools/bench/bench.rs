@@ -12,6 +12,11 @@ extern "C" {
     fn mg_bench_plan(small: u32, middle: u32, large: u32, last: u32) -> u64;
 }
 
+#[link(name = "bench_steps", kind = "static")]
+extern "C" {
+    fn mg_bench_program(address: u32, data: *const u8, len: usize) -> u64;
+}
+
 fn main() {
     let tables = tables();
     let part = [Table::new(6, &MX66L1G45G)];
@@ -22,6 +27,8 @@ fn main() {
         agree(list, |t| rust_sfdp(t, micros).wrapping_add(own_fields(t)), ours_sfdp);
     }
     agree(&PLANS, rust_plan, ours_plan);
+    let writes = [Write::new(0x1000, 4096), Write::new(0x2F10, 200), Write::new(0x3000, 16)];
+    agree(&writes, rust_program, ours_program);
     println!("{:<34} {:>6}   {}", "name", "ratio", "spread");
     compare("sfdp table, mx66l1g45g", &part, |t| rust_sfdp(t, parts), ours_sfdp);
     compare("sfdp table, a mix", &tables, |t| rust_sfdp(t, parts), ours_sfdp);
@@ -29,6 +36,9 @@ fn main() {
     compare("the same mix, the Rust's fields", &tables, |t| rust_sfdp(t, parts), ours_sfdp_shared);
     compare("plan of 16 MiB, three types", &PLANS[..1], rust_plan, ours_plan);
     compare("plan of 16 MiB less 1, three types", &PLANS[1..], rust_plan, ours_plan);
+    compare("program of a sector, by steps", &writes[..1], rust_program, ours_program);
+    compare("program of 200 bytes, by steps", &writes[1..2], rust_program, ours_program);
+    compare("program of 16 bytes, by steps", &writes[2..], rust_program, ours_program);
 }
 
 // ---------------------------------------------------------------- measuring
@@ -76,6 +86,84 @@ fn compare<I>(name: &str, inputs: &[I], rust: impl Fn(&I) -> u64, ours: impl Fn(
     ratios.sort_by(|a, b| a.partial_cmp(b).unwrap());
     let (least, greatest) = (ratios[0], ratios[ROUNDS - 1]);
     println!("{:<34} {:>6.2}   {:.2} to {:.2}", name, ratios[ROUNDS / 2], least, greatest);
+}
+
+// ---------------------------------------------------------------- a command, transaction by transaction
+
+struct Write {
+    address: u32,
+    data: Vec<u8>,
+}
+
+impl Write {
+    fn new(address: u32, length: usize) -> Write {
+        Write { address, data: (0..length).map(|i| (i * 7 % 251) as u8).collect() }
+    }
+}
+
+/// A part of 64 KiB that is all FF and always ready. It folds what is sent as the other side does.
+#[derive(Default)]
+struct Wire {
+    folded: u64,
+    polls: u64,
+}
+
+struct Failed;
+
+impl From<Failed> for spi_flash::Error {
+    fn from(_: Failed) -> spi_flash::Error {
+        spi_flash::Error::Access
+    }
+}
+
+impl spi_flash::FlashAccess for Wire {
+    type Error = Failed;
+
+    fn write(&mut self, data: &[u8]) -> Result<(), Failed> {
+        self.fold(data, 0);
+        Ok(())
+    }
+
+    fn exchange(&mut self, data: &[u8]) -> Result<Vec<u8>, Failed> {
+        let reply = match data[0] {
+            0x05 => 1,
+            0x0B => data.len() - 5,
+            _ => 0,
+        };
+        self.fold(&data[..data.len() - reply], reply as u64);
+        let mut back = vec![0xFF; data.len()];
+        if data[0] == 0x05 {
+            self.polls += 1;
+            back[1] = 0;
+        }
+        Ok(back)
+    }
+}
+
+impl Wire {
+    fn fold(&mut self, sent: &[u8], reply: u64) {
+        let address = if sent.len() < 4 { 0 } else { u32::from_be_bytes([0, sent[1], sent[2], sent[3]]) };
+        let part = if sent[0] == 0x02 { &sent[4..] } else { &[] };
+        let ends = match part {
+            [] => 0,
+            _ => part[0] as u64 + 2 * part[part.len() - 1] as u64,
+        };
+        let tail = then(reply, part.len() as u64 + ends);
+        self.folded = self.folded.wrapping_add(then(sent[0] as u64, then(address as u64, tail)));
+    }
+}
+
+fn rust_program(w: &Write) -> u64 {
+    let mut wire = Wire::default();
+    let mut flash = spi_flash::Flash::new(&mut wire);
+    flash.set_erase_size(4096);
+    flash.set_capacity(65_536);
+    assert!(flash.program(w.address, &w.data, false).is_ok());
+    wire.folded.wrapping_add(wire.polls)
+}
+
+fn ours_program(w: &Write) -> u64 {
+    unsafe { mg_bench_program(w.address, w.data.as_ptr(), w.data.len()) }
 }
 
 // ---------------------------------------------------------------- plans
