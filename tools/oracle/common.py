@@ -7,7 +7,8 @@ HERE = os.path.dirname(os.path.abspath(__file__))
 ROOT = os.path.dirname(os.path.dirname(HERE))
 ORACLE = os.path.join(ROOT, "target", "oracle", "bin", "oracle")
 # Each list is the data of the program that replays it.
-PLACES = {"sfdp.bin": "replay_sfdp", "parts.bin": "replay_sfdp", "ranges.bin": "replay_plans", "plans.bin": "replay_plans"}
+PLACES = {"sfdp.bin": "replay_sfdp", "parts.bin": "replay_sfdp", "ranges.bin": "replay_plans", "plans.bin": "replay_plans",
+          "runs.bin": "replay_runs"}
 
 
 def place(name):
