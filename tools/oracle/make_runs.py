@@ -71,10 +71,8 @@ class Run:
     def __init__(self, case):
         self.case = case
         self.front = " ".join(["run"] + settings_words(case) + command_words(case) + [":"])
-        self.words, self.replies, self.flash = [], None, R.settings_of(case)
-        self.wire = R.Replies(case, self.flash.ab)
-        self.busy = 0
-        self.done = None
+        self.words, self.busy, self.done = [], 0, None
+        self.wire = R.Replies(case, R.settings_of(case).ab)
 
     def question(self):
         return self.front + "".join(" " + word for word in self.words)
@@ -326,7 +324,8 @@ def params():
             data[9], data[11] = minor, count
             yield make(R.PARAMS, area=bytes(data))
     for _ in range(12):
-        yield make(R.PARAMS, area=area(REAL, headers=rnd.below(3), protocol=rnd.pick([0, 1, 0xFE, 0xFF])), bump=rnd.pick([0, 0, 1]))
+        item = area(REAL, headers=rnd.below(3), protocol=rnd.pick([0, 1, 0xFE, 0xFF]))
+        yield make(R.PARAMS, area=item, bump=rnd.pick([0, 0, 1]))
 
 
 def before_params():
@@ -341,23 +340,23 @@ def erases():
         for limit in range(1, 7):
             for busy in range(0, 7):
                 yield make(R.ERASE, limit=limit, busy=busy, **given)
-        yield make(R.ERASE, limit=255 if item is None else 4, stuck_from=0, busy=3, **given) if item else \
-            make(R.ERASE, limit=100, stuck_from=0)
+        yield make(R.ERASE, limit=4 if item else 100, stuck_from=0, **given)
         for i in range(5):
             for fault in (R.FAILS, R.SHORT, R.LONG):
                 yield make(R.ERASE, limit=3, busy=2, fault=fault, fault_at=i, **given)
 
 
 def small_plan(case):
-    flash = R.settings_of(case)
-    types = flash.types()
-    if flash.params and not any(flash.params["types"]) and flash.params["4k"]:
-        types = types + [(4096, 0xFF, None)]
-    if not types or case["length"] > 13 * max(size for size, _, _ in types):
-        return not types
-    if case["length"] == 0 or case["address"] + case["length"] >= 1 << 63:
+    """Whether the plans of both sides have at most 12 entries."""
+    flash, length = R.settings_of(case), case["length"]
+    if length == 0 or case["address"] + length >= 1 << 63:
         return True
-    return all(len(make_plan([one] if one[1] == 0xFF else types, case["address"], case["length"])) <= 12 for one in types)
+    for types in [flash.types()] + ([[(4096, 0xFF, None)]] if R.is_p2(flash) else []):
+        if types and length > 13 * max(size for size, _, _ in types):
+            return False
+        if types and len(make_plan(types, case["address"], length)) > 12:
+            return False
+    return True
 
 
 def is_dull(case):
