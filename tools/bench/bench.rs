@@ -14,7 +14,7 @@ extern "C" {
 
 #[link(name = "bench_steps", kind = "static")]
 extern "C" {
-    fn mg_bench_program(address: u32, data: *const u8, len: usize) -> u64;
+    fn mg_bench_program(address: u32, data: *const u8, len: usize, work: *mut u8, room: usize) -> u64;
 }
 
 fn main() {
@@ -27,7 +27,7 @@ fn main() {
         agree(list, |t| rust_sfdp(t, micros).wrapping_add(own_fields(t)), ours_sfdp);
     }
     agree(&PLANS, rust_plan, ours_plan);
-    let writes = [Write::new(0x1000, 4096), Write::new(0x2F10, 200), Write::new(0x3000, 16)];
+    let writes = [Write::new(0x1000, 4096), Write::new(0x2F10, 200), Write::new(0x3000, 16), Write::new(0x3FF0, 16)];
     agree(&writes, rust_program, ours_program);
     println!("{:<34} {:>6}   {}", "name", "ratio", "spread");
     compare("sfdp table, mx66l1g45g", &part, |t| rust_sfdp(t, parts), ours_sfdp);
@@ -38,7 +38,8 @@ fn main() {
     compare("plan of 16 MiB less 1, three types", &PLANS[1..], rust_plan, ours_plan);
     compare("program of a sector, by steps", &writes[..1], rust_program, ours_program);
     compare("program of 200 bytes, by steps", &writes[1..2], rust_program, ours_program);
-    compare("program of 16 bytes, by steps", &writes[2..], rust_program, ours_program);
+    compare("program of 16 bytes, FF after them", &writes[2..3], rust_program, ours_program);
+    compare("program of 16 bytes, FF before them", &writes[3..], rust_program, ours_program);
 }
 
 // ---------------------------------------------------------------- measuring
@@ -162,8 +163,11 @@ fn rust_program(w: &Write) -> u64 {
     wire.folded.wrapping_add(wire.polls)
 }
 
+/// The working buffer is the caller's, and lives on.
+static mut WORK: [u8; 4096] = [0; 4096];
+
 fn ours_program(w: &Write) -> u64 {
-    unsafe { mg_bench_program(w.address, w.data.as_ptr(), w.data.len()) }
+    unsafe { mg_bench_program(w.address, w.data.as_ptr(), w.data.len(), std::ptr::addr_of_mut!(WORK) as *mut u8, 4096) }
 }
 
 // ---------------------------------------------------------------- plans

@@ -1,4 +1,5 @@
 // What tools/bench calls: a command run step by step, with all that was sent folded into one number. For the benchmark alone.
+ghost use Prim.Native.Nat.{_≤_};
 use flash::Event;
 use flash::Session;
 use flash::Stepped;
@@ -42,84 +43,47 @@ fn fold_sent(t: Transaction, work: &[u8]) -> u64 {
     )
 }
 
-// A host's turn: the step's result, whether the command goes on, and what was sent so far.
-pub struct Played {
-    pub stepped: Stepped,
-    pub going: bool,
-    pub folded: u64,
+fn least(n: u64, most: usize) -> usize
+    ensures { λ r. ⌜ r ≤ most ⌝ }
+{
+    if n <= most as u64 { n as usize } else { most }
 }
 
-// The reply of an erased part that is always ready.
-fn replied(
-    t: Played,
-    s: Session,
-    n: u64,
-    poll: bool,
-    folded: u64,
-    erased: &[u8],
-    work: &mut [u8],
-) -> Played {
-    let ready = [0u8; 1];
-    if poll {
-        return Played {
-            stepped: s.step(false, &ready, work),
-            going: true,
-            folded: folded,
-        };
-    }
-    if n <= erased.len() as u64 {
-        let len = n as usize;
-        return Played {
-            stepped: s.step(false, &erased[0..len], work),
-            going: true,
-            folded: folded,
-        };
-    }
-    t
-}
-
-fn take_turn(t: Played, erased: &[u8], work: &mut [u8]) -> Played {
-    let stepped = t.stepped;
-    let s = stepped.session;
-    let e = stepped.event;
-    match e {
-        Event::Answered(_, polls) => Played {
-            stepped: stepped,
-            going: false,
-            folded: sum(t.folded, polls),
-        },
-        Event::Send(x) => {
-            let folded = sum(t.folded, fold_sent(x, work));
-            replied(t, s, x.reply, x.poll, folded, erased, work)
-        }
-    }
-}
-
+// The host: it sends what the events say, and gives back the reply of an erased part that is always ready.
 fn run(x: Stepped, erased: &[u8], work: &mut [u8]) -> u64 {
-    let mut t = Played {
-        stepped: x,
-        going: true,
-        folded: 0,
-    };
+    let ready = [0u8; 1];
+    let mut now = x;
+    let mut folded: u64 = 0;
     let mut turns: u64 = 100_000;
     while turns > 0 {
-        if t.going {
-            t = take_turn(t, erased, work);
-            turns -= 1;
-        } else {
-            turns = 0;
+        let e = now.event;
+        let s = now.session;
+        match e {
+            Event::Answered(_, polls) => {
+                folded = sum(folded, polls);
+                turns = 0;
+            }
+            Event::Send(t) => {
+                folded = sum(folded, fold_sent(t, work));
+                turns -= 1;
+                if t.poll {
+                    now = s.step(false, &ready, work);
+                    continue;
+                }
+                let n = least(t.reply, erased.len());
+                now = s.step(false, &erased[0..n], work);
+            }
         }
     }
-    t.folded
+    folded
 }
 
 // A program without verify on a part of 64 KiB with sectors of 4 KiB, all of it FF and always ready.
 #[no_mangle]
-pub extern "C" fn mg_bench_program(address: u32, data: &[u8]) -> u64 {
-    let mut work = [0u8; 4096];
+pub extern "C" fn mg_bench_program(address: u32, data: &[u8], work: &mut [u8]) -> u64 {
     let sized = Session::new().set_erase_size(4096).session;
     let s = sized.set_capacity(65_536).session;
-    let x = s.program(address, data, false, &mut work);
+    let x = s.program(address, data, false, work);
     let erased = [0xFFu8; 4096];
-    run(x, &erased, &mut work)
+    run(x, &erased, work)
 }

@@ -79,6 +79,18 @@ readOn s n Reads.Id r = cond (eqb (byteAt r 0) 0x7F) (goes s n (Reading Reads.Id
 readOn s n Reads.IdAgain r = ends s n Ends.Other (firstId 13 1 r)
 readOn s n Reads.Protected r = ends s n Ends.Other (DoneBool (not (eqb (bits (byteAt r 0) 4 2) 0)))
 
+-- the read of a table, whose reply changes settings and parameters
+unfoldable pub isTable : ReadCommand → Bool
+isTable (Reads.Read legacy a k) = false
+isTable Reads.Header = false
+isTable (Reads.Headers more) = false
+isTable (Reads.Table minor plen ptp) = true
+isTable (Reads.Before J) = false
+isTable (Reads.After J) = false
+isTable Reads.Id = false
+isTable Reads.IdAgain = false
+isTable Reads.Protected = false
+
 -- the room after a read's reply
 unfoldable pub readRoom : ReadCommand → List ℕ → List ℕ → List ℕ
 readRoom (Reads.Read legacy a k) r room = laid 0 r room
@@ -223,6 +235,15 @@ isEnded (Polling c left) = false
 isEnded (Verifying c) = false
 isEnded (Resetting c) = false
 isEnded (Ended c a) = true
+
+unfoldable pub ofTable : Phase → Bool
+ofTable (Reading c) = isTable c
+ofTable (Erasing c enabled) = false
+ofTable (Writing c enabled) = false
+ofTable (Polling c left) = false
+ofTable (Verifying c) = false
+ofTable (Resetting c) = false
+ofTable (Ended c a) = false
 
 -- polls issued, the one that was waited on too
 unfoldable pub counted : Session → ℕ

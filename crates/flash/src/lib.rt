@@ -436,6 +436,87 @@ pub fn waits_on(s: Session, p: Phase) -> Transaction
     }
 }
 
+// ---- what is asked of the host, by the phase alone
+
+// Whether it is a poll.
+pub fn is_poll(p: Phase) -> bool
+    ensures { λ r. ⌜ ((s : Session) → r ≡ waitsOn s p .poll) ⌝ }
+{
+    match p {
+        Phase::Reading { command: _ } => false,
+        Phase::Erasing {
+            command: _,
+            enabled: _,
+        } => false,
+        Phase::Writing {
+            command: _,
+            enabled: _,
+        } => false,
+        Phase::Polling {
+            command: _,
+            left: _,
+        } => true,
+        Phase::Verifying { command: _ } => false,
+        Phase::Resetting { command: _ } => false,
+        Phase::Ended {
+            command: _,
+            answer: _,
+        } => false,
+    }
+}
+
+fn read_reply(c: ReadCommand) -> u64
+    ensures { λ r. ⌜ ((x : Settings) → r ≡ readTx x c .reply) ⌝ }
+{
+    match c {
+        ReadCommand::Read(_, _, n) => n,
+        ReadCommand::Header => 8,
+        ReadCommand::Headers(more) => 16 + 8 * (more as u64),
+        ReadCommand::Table(_, plen, _) => 4 * (plen as u64),
+        ReadCommand::Before(job) => minus(job.from as u64, job.base as u64),
+        ReadCommand::After(job) => minus(job.top as u64, job.last as u64),
+        ReadCommand::Id => 3,
+        ReadCommand::IdAgain => 16,
+        ReadCommand::Protected => 1,
+    }
+}
+
+fn verify_reply(c: VerifyCommand) -> u64
+    ensures { λ r. ⌜ ((s : Session) → r ≡ verifyTx s c .reply) ⌝ }
+{
+    match c {
+        VerifyCommand::Compare(_, to) => to as u64 + 1,
+        VerifyCommand::Tell(_, _) => 1,
+    }
+}
+
+// How many bytes it asks for.
+pub fn reply_of(p: Phase) -> u64
+    ensures { λ r. ⌜ ((s : Session) → r ≡ waitsOn s p .reply) ⌝ }
+{
+    match p {
+        Phase::Reading { command } => read_reply(command),
+        Phase::Erasing {
+            command: _,
+            enabled: _,
+        } => 0,
+        Phase::Writing {
+            command: _,
+            enabled: _,
+        } => 0,
+        Phase::Polling {
+            command: _,
+            left: _,
+        } => 1,
+        Phase::Verifying { command } => verify_reply(command),
+        Phase::Resetting { command: _ } => 0,
+        Phase::Ended {
+            command: _,
+            answer: _,
+        } => 0,
+    }
+}
+
 // ---- the room that a command needs
 
 fn read_need(c: ReadCommand) -> u64
@@ -523,6 +604,16 @@ fn event_of(s: Session, p: Phase) -> Event
 {
     match p {
         Phase::Ended { command: _, answer } => Event::Answered(answer, s.polls),
+        _ => Event::Send(waits_on(s, p)),
+    }
+}
+
+// Of a session in a phase, with so many polls.
+pub fn event_at(s: Session, p: Phase, polls: u64) -> Event
+    ensures { λ r. ⌜ r ≡ eventOf (inPhase s p polls) p ⌝ }
+{
+    match p {
+        Phase::Ended { command: _, answer } => Event::Answered(answer, polls),
         _ => Event::Send(waits_on(s, p)),
     }
 }

@@ -3,9 +3,9 @@ ghost use mathlib.Core.Path.{_≡_};
 ghost use mathlib.Core.List.{[]};
 ghost use mathlib.Core.Bool.{false, cond};
 ghost use lib.Dec.{eqb};
-ghost use Prim.Native.Nat.{_+_, _-_};
+ghost use Prim.Native.Nat.{ℕ, _+_, _-_};
 ghost use Rattle.commands.specs.Transactions.{ready};
-ghost use Rattle.flash.specs.Steps.{toPolls, lastWritten, afterErase, toVerify, afterWrite, afterPolls, stillBusy, pollOn, resetOn};
+ghost use Rattle.flash.specs.Steps.{goes, toPolls, lastWritten, afterErase, toVerify, afterWrite, afterPolls, stillBusy, pollOn, resetOn};
 use crate::Command;
 use crate::EraseCommand;
 use crate::Job;
@@ -16,27 +16,24 @@ use crate::Session;
 use crate::VerifyCommand;
 use crate::WriteCommand;
 use crate::ends;
-use crate::reads;
 use commands::Answer;
 use dwords::byte_at;
 use erase_plan::Next;
 
 // On to the polls, or answer 9 at once where the limit is 0.
-pub fn to_polls(s: Session, n: u64, c: PollCommand) -> Session
-    ensures { λ r. ⌜ r ≡ toPolls s n c ⌝ }
+pub fn to_polls(limit: u16, c: PollCommand) -> Phase
+    ensures { λ r. ⌜ ((s : Session) (n : ℕ) → s .settings .«poll_limit» ≡ limit → toPolls s n c ≡ goes s n r) ⌝ }
 {
-    let settings = s.settings;
-    let limit = settings.poll_limit;
     if limit == 0 {
-        reads::ended(s, n, ends::poll_ends(c), Answer::Busy)
+        Phase::Ended {
+            command: ends::poll_ends(c),
+            answer: Answer::Busy,
+        }
     } else {
-        s.goes(
-            Phase::Polling {
-                command: c,
-                left: limit - 1,
-            },
-            n,
-        )
+        Phase::Polling {
+            command: c,
+            left: limit - 1,
+        }
     }
 }
 

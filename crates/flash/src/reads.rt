@@ -1,7 +1,9 @@
 // What a read's reply leads to.
 ghost use mathlib.Core.Path.{_≡_};
 ghost use Rattle.commands.specs.Commands.{idAt, firstId};
-ghost use Rattle.flash.specs.Steps.{goes, ends, toAfter, toBefore, withHeader, withTable, readOn, readRoom};
+ghost use mathlib.Core.Bool.{false};
+ghost use Prim.Native.Nat.{ℕ};
+ghost use Rattle.flash.specs.Steps.{goes, ends, toAfter, toBefore, withHeader, withTable, isTable, readOn};
 use crate::Command;
 use crate::EraseCommand;
 use crate::Job;
@@ -27,10 +29,14 @@ pub fn ended(s: Session, n: u64, c: Command, a: Answer) -> Session
     )
 }
 
-pub fn reading(s: Session, n: u64, c: ReadCommand) -> Session
-    ensures { λ r. ⌜ r ≡ goes s n (Phase.Reading c) ⌝ }
+// A phase that ends another command than a program.
+fn over(a: Answer) -> Phase
+    ensures { λ r. ⌜ r ≡ Phase.Ended Command.Other a ⌝ }
 {
-    s.goes(Phase::Reading { command: c }, n)
+    Phase::Ended {
+        command: Command::Other,
+        answer: a,
+    }
 }
 
 // A program goes on after the bytes before its data were read.
@@ -62,13 +68,16 @@ pub fn to_before(job: Job) -> Phase
     }
 }
 
-fn with_header(s: Session, n: u64, h: ReadHeader) -> Session
-    ensures { λ r. ⌜ r ≡ withHeader s n h ⌝ }
+// What the first header leads to.
+fn with_header(h: ReadHeader) -> Phase
+    ensures { λ r. ⌜ ((s : Session) (n : ℕ) → withHeader s n h ≡ goes s n r) ⌝ }
 {
     match h {
-        ReadHeader::NoSFDP => ended(s, n, Command::Other, Answer::NoSFDP),
-        ReadHeader::InvalidSFDPHeader => ended(s, n, Command::Other, Answer::InvalidSFDPHeader),
-        ReadHeader::Header(p) => reading(s, n, ReadCommand::Table(p.minor, p.plen, p.ptp)),
+        ReadHeader::NoSFDP => over(Answer::NoSFDP),
+        ReadHeader::InvalidSFDPHeader => over(Answer::InvalidSFDPHeader),
+        ReadHeader::Header(p) => Phase::Reading {
+            command: ReadCommand::Table(p.minor, p.plen, p.ptp),
+        },
     }
 }
 
@@ -89,7 +98,8 @@ fn adopted(s: Session, n: u64, p: FlashParams) -> Session
     }
 }
 
-fn with_table(s: Session, n: u64, t: ReadParams) -> Session
+// The session after the table.
+pub fn with_table(s: Session, n: u64, t: ReadParams) -> Session
     ensures { λ r. ⌜ r ≡ withTable s n t ⌝ }
 {
     match t {
@@ -121,36 +131,35 @@ fn first_id(reply: &[u8]) -> Answer
     Answer::InvalidManufacturer
 }
 
-// The session after a read's full reply.
-pub fn read_on(s: Session, n: u64, c: ReadCommand, reply: &[u8]) -> Session
-    ensures { λ r. ⌜ r ≡ readOn s n c (now (reply .entry)) ⌝ }
+// The phase after a read's full reply, but for a table: that changes the session too.
+pub fn read_on(c: ReadCommand, reply: &[u8]) -> Phase
+    ensures { λ r. ⌜ ((s : Session) (n : ℕ) → isTable c ≡ false → readOn s n c (now (reply .entry)) ≡ goes s n r) ⌝ }
 {
     match c {
-        ReadCommand::Read(_, _, _) => ended(s, n, Command::Other, Answer::Done),
-        ReadCommand::Header => reading(s, n, ReadCommand::Headers(byte_at(reply, 6))),
-        ReadCommand::Headers(_) => with_header(s, n, sfdp::read_header(reply)),
-        ReadCommand::Table(minor, plen, _) => {
-            with_table(s, n, FlashParams::from_bytes(minor, plen, reply))
-        }
-        ReadCommand::Before(job) => s.goes(to_after(job), n),
-        ReadCommand::After(job) => s.goes(
-            Phase::Erasing {
-                command: EraseCommand::Program(job, job.from),
-                enabled: false,
-            },
-            n,
-        ),
+        ReadCommand::Read(_, _, _) => over(Answer::Done),
+        ReadCommand::Header => Phase::Reading {
+            command: ReadCommand::Headers(byte_at(reply, 6)),
+        },
+        ReadCommand::Headers(_) => with_header(sfdp::read_header(reply)),
+        ReadCommand::Table(_, _, _) => over(Answer::Done),
+        ReadCommand::Before(job) => to_after(job),
+        ReadCommand::After(job) => Phase::Erasing {
+            command: EraseCommand::Program(job, job.from),
+            enabled: false,
+        },
         ReadCommand::Id => {
             if byte_at(reply, 0) == 0x7F {
-                reading(s, n, ReadCommand::IdAgain)
+                Phase::Reading {
+                    command: ReadCommand::IdAgain,
+                }
             } else {
-                ended(s, n, Command::Other, id_at(0, reply))
+                over(id_at(0, reply))
             }
         }
-        ReadCommand::IdAgain => ended(s, n, Command::Other, first_id(reply)),
+        ReadCommand::IdAgain => over(first_id(reply)),
         ReadCommand::Protected => {
             let status = byte_at(reply, 0);
-            ended(s, n, Command::Other, Answer::DoneBool(status / 4 % 8 != 0))
+            over(Answer::DoneBool(status / 4 % 8 != 0))
         }
     }
 }

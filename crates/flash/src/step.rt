@@ -1,8 +1,9 @@
 // The step.
 ghost use mathlib.Core.Path.{_≡_};
-ghost use Rattle.flash.specs.Steps.{goes, toPolls, verifyOn, advanced, readRoom, roomAfter, stepOf};
-ghost use mathlib.Core.Bool.{true, cond};
-ghost use Prim.Native.Nat.{_+_, _%_, _^_};
+ghost use Rattle.flash.specs.Steps.{goes, toPolls, verifyOn, isTable, ofTable, isEnded, advanced, readRoom, roomAfter, stepOf};
+ghost use Rattle.flash.specs.Waits.{told};
+ghost use mathlib.Core.Bool.{true, false, cond};
+ghost use Prim.Native.Nat.{ℕ, _+_, _%_, _^_};
 use crate::Command;
 use crate::EraseCommand;
 use crate::Event;
@@ -20,6 +21,7 @@ use crate::polls;
 use crate::reads;
 use commands::Answer;
 use room::Differs;
+use sfdp::FlashParams;
 
 // What was read back against the room's bytes up to the byte `to`.
 fn compared(job: Job, to: u32, reply: &[u8], work: &[u8]) -> Phase
@@ -56,57 +58,69 @@ fn verify_on(c: VerifyCommand, reply: &[u8], work: &[u8]) -> Phase
 }
 
 // An erase, or its 06, was answered.
-fn erase_on(s: Session, n: u64, c: EraseCommand, enabled: bool) -> Session
-    ensures { λ r. ⌜ r ≡ cond enabled (toPolls s n (PollCommand.Erase c)) (goes s n (Phase.Erasing c true)) ⌝ }
+fn erase_on(limit: u16, c: EraseCommand, enabled: bool) -> Phase
+    ensures { λ r. ⌜ ((s : Session) (n : ℕ) → s .settings .«poll_limit» ≡ limit → cond enabled (toPolls s n (PollCommand.Erase c)) (goes s n (Phase.Erasing c true)) ≡ goes s n r) ⌝ }
 {
     if enabled {
-        polls::to_polls(s, n, PollCommand::Erase(c))
+        polls::to_polls(limit, PollCommand::Erase(c))
     } else {
-        s.goes(
-            Phase::Erasing {
-                command: c,
-                enabled: true,
-            },
-            n,
-        )
+        Phase::Erasing {
+            command: c,
+            enabled: true,
+        }
     }
 }
 
 // A page write, or its 06, was answered.
-fn write_on(s: Session, n: u64, c: WriteCommand, enabled: bool) -> Session
-    ensures { λ r. ⌜ r ≡ cond enabled (toPolls s n (PollCommand.Write c)) (goes s n (Phase.Writing c true)) ⌝ }
+fn write_on(limit: u16, c: WriteCommand, enabled: bool) -> Phase
+    ensures { λ r. ⌜ ((s : Session) (n : ℕ) → s .settings .«poll_limit» ≡ limit → cond enabled (toPolls s n (PollCommand.Write c)) (goes s n (Phase.Writing c true)) ≡ goes s n r) ⌝ }
 {
     if enabled {
-        polls::to_polls(s, n, PollCommand::Write(c))
+        polls::to_polls(limit, PollCommand::Write(c))
     } else {
-        s.goes(
-            Phase::Writing {
-                command: c,
-                enabled: true,
-            },
-            n,
-        )
+        Phase::Writing {
+            command: c,
+            enabled: true,
+        }
     }
 }
 
-// The session after a full reply.
-fn advance(s: Session, n: u64, p: Phase, reply: &[u8], work: &[u8]) -> Session
-    ensures { λ r. ⌜ r ≡ advanced s n p (now (reply .entry)) (now (work .entry)) ⌝ }
+// The phase after a full reply that is no table.
+fn advance(s: Session, p: Phase, reply: &[u8], work: &[u8]) -> Phase
+    ensures { λ r. ⌜ ((n : ℕ) → ofTable p ≡ false → isEnded p ≡ false → advanced s n p (now (reply .entry)) (now (work .entry)) ≡ goes s n r) ⌝ }
 {
+    let settings = s.settings;
+    let limit = settings.poll_limit;
     match p {
-        Phase::Reading { command } => reads::read_on(s, n, command, reply),
-        Phase::Erasing { command, enabled } => erase_on(s, n, command, enabled),
-        Phase::Writing { command, enabled } => write_on(s, n, command, enabled),
-        Phase::Polling { command, left } => s.goes(
-            polls::poll_on(s, command, left, reply, work),
-            n,
-        ),
-        Phase::Verifying { command } => s.goes(verify_on(command, reply, work), n),
-        Phase::Resetting { command } => s.goes(polls::reset_on(command), n),
+        Phase::Reading { command } => reads::read_on(command, reply),
+        Phase::Erasing { command, enabled } => erase_on(limit, command, enabled),
+        Phase::Writing { command, enabled } => write_on(limit, command, enabled),
+        Phase::Polling { command, left } => polls::poll_on(s, command, left, reply, work),
+        Phase::Verifying { command } => verify_on(command, reply, work),
+        Phase::Resetting { command } => polls::reset_on(command),
         Phase::Ended {
             command: _,
             answer: _,
-        } => s,
+        } => p,
+    }
+}
+
+// Whether a table is read.
+fn is_table(c: ReadCommand) -> bool
+    ensures { λ r. ⌜ r ≡ isTable c ⌝ }
+{
+    match c {
+        ReadCommand::Table(_, _, _) => true,
+        _ => false,
+    }
+}
+
+fn of_table(p: Phase) -> bool
+    ensures { λ r. ⌜ r ≡ ofTable p ⌝ }
+{
+    match p {
+        Phase::Reading { command } => is_table(command),
+        _ => false,
     }
 }
 
@@ -153,6 +167,20 @@ fn keep(p: Phase, reply: &[u8], work: &mut [u8])
     }
 }
 
+// A table was read.
+fn table_on(s: Session, n: u64, p: Phase, reply: &[u8], work: &mut [u8]) -> Stepped
+    ensures { λ r. ⌜ (ofTable p ≡ true → (r ≡ told (advanced s n p (now (reply .entry)) (now (work .entry)))) × (now (work .exit) ≡ roomAfter p (now (reply .entry)) (now (work .entry)))) ⌝ }
+{
+    if let Phase::Reading { command } = p {
+        if let ReadCommand::Table(minor, plen, _) = command {
+            let next = reads::with_table(s, n, FlashParams::from_bytes(minor, plen, reply));
+            room::lay(work, 0, reply);
+            return next.tell();
+        }
+    }
+    s.tell()
+}
+
 // The polls with the transaction that was waited on.
 fn count(polls: u64, poll: bool) -> u64
     ensures { λ r. ⌜ r ≡ (polls + cond poll 1 0) % 2 ^ 64 ⌝ }
@@ -180,16 +208,21 @@ impl Session {
                 event: Event::Answered(Answer::NoRoom(need), self.polls),
             };
         }
-        let t = crate::waits_on(self, p);
-        let n = count(self.polls, t.poll);
+        let n = count(self.polls, crate::is_poll(p));
         if failed {
             return reads::ended(self, n, ends::ends_as(p), Answer::Access).tell();
         }
-        if (reply.len() as u64) != t.reply {
+        if (reply.len() as u64) != crate::reply_of(p) {
             return reads::ended(self, n, ends::ends_as(p), Answer::Access).tell();
         }
-        let next = advance(self, n, p, reply, work);
+        if of_table(p) {
+            return table_on(self, n, p, reply, work);
+        }
+        let q = advance(self, p, reply, work);
         keep(p, reply, work);
-        next.tell()
+        Stepped {
+            session: self.goes(q, n),
+            event: crate::event_at(self, q, n),
+        }
     }
 }
