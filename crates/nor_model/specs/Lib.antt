@@ -1,0 +1,5 @@
+pub mod Device
+pub mod Fits
+pub mod Replay
+pub mod Runs
+pub mod Demand3

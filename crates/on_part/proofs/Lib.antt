@@ -1,0 +1,4 @@
+pub mod Resting
+pub mod Serving
+pub mod Keeping
+pub mod Instances

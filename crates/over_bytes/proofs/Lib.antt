@@ -1,0 +1,4 @@
+pub mod Rooms
+pub mod Through
+pub mod Keeping
+pub mod Instances

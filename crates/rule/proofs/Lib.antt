@@ -1,0 +1,11 @@
+pub mod Tests
+pub mod Polls
+pub mod Goes
+pub mod Steps
+pub mod Starts
+pub mod Fits
+pub mod Params
+pub mod Widths
+pub mod Wide
+pub mod Whole
+pub mod Instances
