@@ -2,6 +2,7 @@
 //! The Rust is compiled with the oracle's stub of `log`, whose macros do nothing: no time goes into logging.
 //! A further bench: its inputs, a function of an input for each side, and in `main` one line `agree` and one `compare`.
 use spi_flash::{FlashParams, SFDPAddressBytes, SFDPEraseInst, SFDPStatus1Volatility, SFDPTiming};
+use std::convert::TryInto;
 use std::hint::black_box;
 use std::time::{Duration, Instant};
 
@@ -17,6 +18,21 @@ extern "C" {
     fn mg_bench_program(address: u32, data: *const u8, len: usize, work: *mut u8, room: usize) -> u64;
 }
 
+#[link(name = "flash_c", kind = "static")]
+extern "C" {
+    fn flash_new(session: *mut u8, len: usize) -> u8;
+    fn flash_set_erase_size(session: *mut u8, len: usize, n: u64) -> u8;
+    fn flash_set_capacity(session: *mut u8, len: usize, n: u64) -> u8;
+    fn flash_program(
+        session: *mut u8, len: usize, address: u32, data: *const u8, data_len: usize, verify: u8,
+        work: *mut u8, work_len: usize, event: *mut u8, event_len: usize,
+    ) -> u8;
+    fn flash_step(
+        session: *mut u8, len: usize, failed: u8, reply: *const u8, reply_len: usize,
+        work: *mut u8, work_len: usize, event: *mut u8, event_len: usize,
+    ) -> u8;
+}
+
 fn main() {
     let tables = tables();
     let part = [Table::new(6, &MX66L1G45G)];
@@ -29,6 +45,7 @@ fn main() {
     agree(&PLANS, rust_plan, ours_plan);
     let writes = [Write::new(0x1000, 4096), Write::new(0x2F10, 200), Write::new(0x3000, 16), Write::new(0x3FF0, 16)];
     agree(&writes, rust_program, ours_program);
+    agree(&writes, rust_program, packed_program);
     println!("{:<34} {:>6}   {}", "name", "ratio", "spread");
     compare("sfdp table, mx66l1g45g", &part, |t| rust_sfdp(t, parts), ours_sfdp);
     compare("sfdp table, a mix", &tables, |t| rust_sfdp(t, parts), ours_sfdp);
@@ -40,6 +57,10 @@ fn main() {
     compare("program of 200 bytes, by steps", &writes[1..2], rust_program, ours_program);
     compare("program of 16 bytes, FF after them", &writes[2..3], rust_program, ours_program);
     compare("program of 16 bytes, FF before them", &writes[3..], rust_program, ours_program);
+    compare("the same sector, by 256 bytes", &writes[..1], rust_program, packed_program);
+    compare("the same 200 bytes, by 256 bytes", &writes[1..2], rust_program, packed_program);
+    compare("sector, by 256 bytes : by value", &writes[..1], ours_program, packed_program);
+    compare("200 bytes, by 256 bytes : by value", &writes[1..2], ours_program, packed_program);
 }
 
 // ---------------------------------------------------------------- measuring
@@ -168,6 +189,35 @@ static mut WORK: [u8; 4096] = [0; 4096];
 
 fn ours_program(w: &Write) -> u64 {
     unsafe { mg_bench_program(w.address, w.data.as_ptr(), w.data.len(), std::ptr::addr_of_mut!(WORK) as *mut u8, 4096) }
+}
+
+/// The same by the exports: the session is packed and unpacked at each call.
+fn packed_program(w: &Write) -> u64 {
+    let (mut session, mut event) = ([0u8; 256], [0u8; 64]);
+    let (s, e) = (session.as_mut_ptr(), event.as_mut_ptr());
+    let work = std::ptr::addr_of_mut!(WORK) as *mut u8;
+    let erased = [0xFFu8; 4096];
+    let ready = [0u8; 1];
+    let mut folded = 0u64;
+    unsafe {
+        assert_eq!(0, flash_new(s, 256) | flash_set_erase_size(s, 256, 4096) | flash_set_capacity(s, 256, 65_536));
+        let mut told = flash_program(s, 256, w.address, w.data.as_ptr(), w.data.len(), 0, work, 4096, e, 64);
+        while told == 255 {
+            let number = |at: usize| u64::from_le_bytes(event[at..at + 8].try_into().unwrap());
+            let (reply, from, len) = (number(8) as usize, number(16) as usize, number(24) as usize);
+            let address = if event[1] < 4 { 0 } else { u32::from_be_bytes([0, event[3], event[4], event[5]]) };
+            let ends = match len {
+                0 => 0,
+                _ => *work.add(from) as u64 + 2 * *work.add(from + len - 1) as u64,
+            };
+            let tail = then(reply as u64, len as u64 + ends);
+            folded = folded.wrapping_add(then(event[2] as u64, then(address as u64, tail)));
+            let bytes = if event[36] == 1 { ready.as_ptr() } else { erased.as_ptr() };
+            told = flash_step(s, 256, 0, bytes, reply, work, 4096, e, 64);
+        }
+        assert_eq!(0, told);
+    }
+    folded.wrapping_add(u64::from_le_bytes(event[40..48].try_into().unwrap()))
 }
 
 // ---------------------------------------------------------------- plans

@@ -29,7 +29,7 @@ fn bit_of(yes: bool) -> u8
 }
 
 // A number's eight bytes.
-fn bytes_of(x: u64) -> [u8; 8]
+pub fn bytes_of(x: u64) -> [u8; 8]
     ensures { λ r. ⌜ r ≡ le8 x ⌝ }
 {
     let x1 = x / 256;

@@ -1,0 +1,70 @@
+use mathlib.Core.Path.{refl}
+use borrow.Author.Tests.{eq-eqb, ne-eqb, le-leb, lt-leb}
+use Rattle.flash_c.specs.Plans.{planOver}
+use Rattle.plans.specs.Planned.{plannedOf}
+use borrow.Author.Needs.{needs}
+use Rattle.flash_c.proofs.plan_c.plan_into.Statement.{statement}
+use Rattle.flash_c.proofs.plan_c.plan_into.Tie as tie
+use Rattle.flash_c.proofs.plan_c.plan_into.Reads as reads
+use Rattle.flash_c.proofs.plan_c.plan_into.Lts as lts
+use Rattle.flash_c.proofs.plan_c.write_entries.Reads as write-entries-reads
+use Rattle.plans.proofs.begin.Reads as begin-reads
+
+-- src/plan_c.rt:60:11
+begin-requires : tie.Need-begin-requires
+begin-requires c κs = search needs
+
+-- src/plan_c.rt:61:31
+enum-known-last : tie.Need-enum-known-last
+enum-known-last c = search needs
+
+-- src/plan_c.rt:66:38
+enum-told : tie.Need-enum-told
+enum-told c = search needs
+
+-- src/plan_c.rt:71:22
+enum-known-count : tie.Need-enum-known-count
+enum-known-count c = search needs
+
+-- src/plan_c.rt:73:17
+write-entries-requires : tie.Need-write-entries-requires
+write-entries-requires c κs = search needs
+
+-- src/plan_c.rt:74:17
+same-length : tie.Need-same-length
+same-length c = search needs
+
+-- src/plan_c.rt:74:17
+returns : tie.Need-returns
+unfolding plannedOf planOver
+returns c = rw (c .before .before .write-entries .ensures, ← c .before .before .before .before .before .before .before .before .begin .ensures, c .before .before .before .before .before .before .count .given .1, le-leb _ _ (c .before .before .before .before .if1 .taken)) (refl, refl)
+
+-- src/plan_c.rt:56:1
+returns-2 : tie.Need-returns-2
+unfolding plannedOf planOver
+returns-2 c = rw (← c .before .before .before .begin .ensures, c .before .last .given .1) (refl, refl)
+
+-- src/plan_c.rt:56:1
+returns-3 : tie.Need-returns-3
+unfolding plannedOf planOver
+returns-3 c = rw (← c .before .before .begin .ensures, c .enum-told .given .1) (refl, refl)
+
+-- src/plan_c.rt:56:1
+returns-4 : tie.Need-returns-4
+unfolding plannedOf planOver
+returns-4 c = rw (← c .before .before .before .before .begin .ensures, c .before .before .count .given .1, lt-leb _ _ (c .if1 .left)) (refl, refl)
+
+pub plan-into-spec : {M : Type 1} → statement M
+plan-into-spec =
+    tie.close
+    (tie.spec
+    begin-requires
+    enum-known-last
+    enum-told
+    enum-known-count
+    write-entries-requires
+    same-length
+    returns
+    returns-2
+    returns-3
+    returns-4)
