@@ -2,3 +2,4 @@ pub mod Resting
 pub mod Serving
 pub mod Keeping
 pub mod Instances
+pub mod Table

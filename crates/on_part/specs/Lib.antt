@@ -1,1 +1,2 @@
 pub mod OnPart
+pub mod Chosen
