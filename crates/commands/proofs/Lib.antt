@@ -1,4 +1,5 @@
 pub mod Examples
+pub mod Worked
 pub mod Hosts
 pub mod Endings
 pub mod Sending
