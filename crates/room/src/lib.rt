@@ -51,11 +51,22 @@ fn part(room: &[u8], from: u64, len: u64) -> &[u8]
     &room[at..n]
 }
 
-// Whether all bytes are FF.
-fn all_ff(part: &[u8]) -> bool
-    ensures { λ r. ⌜ r ≡ blank (now (part .entry)) ⌝ }
+// Whether the eight bytes from a place on are FF: they are taken as one number.
+fn eight_ff(part: &[u8], i: usize) -> bool
+    requires { ⌜ i + 8 ≤ length (now part) ⌝ }
+    ensures { λ r. ⌜ r ≡ blank (take 8 (drop i (now (part .entry)))) ⌝ }
 {
-    let mut i = 0;
+    let low = dwords::number(part[i], part[i + 1], part[i + 2], part[i + 3]);
+    let high = dwords::number(part[i + 4], part[i + 5], part[i + 6], part[i + 7]);
+    low as u64 + 4_294_967_296 * (high as u64) == 0xffff_ffff_ffff_ffff
+}
+
+// Whether the bytes from a place on are FF.
+fn rest_ff(part: &[u8], from: usize) -> bool
+    requires { ⌜ from ≤ length (now part) ⌝ }
+    ensures { λ r. ⌜ r ≡ blank (drop from (now (part .entry))) ⌝ }
+{
+    let mut i = from;
     while i < part.len() {
         if part[i] != 0xff {
             return false;
@@ -63,6 +74,21 @@ fn all_ff(part: &[u8]) -> bool
         i += 1;
     }
     true
+}
+
+// Whether all bytes are FF: eight at a time, then those that are left.
+fn all_ff(part: &[u8]) -> bool
+    ensures { λ r. ⌜ r ≡ blank (now (part .entry)) ⌝ }
+{
+    let mut i = 0;
+    while 8 <= part.len() - i {
+        if eight_ff(part, i) {
+            i += 8;
+        } else {
+            return false;
+        }
+    }
+    rest_ff(part, i)
 }
 
 // Whether a part of the room is all FF.

@@ -4,7 +4,7 @@ use mathlib.Core.Path.{_≡_, refl, sym, _∙_}
 use native.Mathlib.Omega.{arith}
 use lib.ListN.{length, drop}
 use Rattle.commands.specs.Commands.{blank}
-use Rattle.room.proofs.Steps.{blank-yes, blank-no, blank-end}
+use Rattle.room.proofs.Steps.{eight-yes, eight-no}
 use Rattle.room.proofs.all_ff.Statement.{statement}
 use Rattle.room.proofs.all_ff.Tie as tie
 
@@ -17,11 +17,11 @@ abbrev μ-loop : tie.MeasureT-loop
 loop-holds : tie.Need-loop-holds Inv-loop μ-loop
 loop-holds c = (search needs, refl)
 
-shared-slice-read-if1 : tie.Need-shared-slice-read-if1 Inv-loop μ-loop
-shared-slice-read-if1 c = search needs
+sub-loop : tie.Need-sub-loop Inv-loop μ-loop
+sub-loop c = search needs
 
-returns : tie.Need-returns Inv-loop μ-loop
-returns c = sym (blank-no (c .before .before .before .before .args .part .now) (c .before .before .before .loop .i) (omega arith) (c .if1 .taken)) ∙ c .before .before .before .loop .inv .1
+eight-ff-requires : tie.Need-eight-ff-requires Inv-loop μ-loop
+eight-ff-requires c κs = search needs
 
 add-i : tie.Need-add-i Inv-loop μ-loop
 add-i c = search needs
@@ -30,10 +30,24 @@ loop-less : tie.Need-loop-less Inv-loop μ-loop
 loop-less c = search needs
 
 loop-again : tie.Need-loop-again Inv-loop μ-loop
-loop-again c = (search needs, sym (blank-yes (c .before .before .before .before .args .part .now) (c .before .before .before .loop .i) (omega arith) (c .if1 .left)) ∙ c .before .before .before .loop .inv .1)
+loop-again c = (
+  search needs,
+  sym (eight-yes (c .before .before .before .before .before .args .part .now) (c .before .before .before .loop .i)
+      (sym (c .before .eight-ff .ensures) ∙ c .if1 .taken))
+      ∙ c .before .before .before .loop .inv .1,
+)
+
+returns : tie.Need-returns Inv-loop μ-loop
+returns c =
+    sym (eight-no (c .before .before .before .before .before .args .part .now) (c .before .before .before .loop .i)
+    (sym (c .before .eight-ff .ensures) ∙ c .if1 .left))
+    ∙ c .before .before .before .loop .inv .1
+
+rest-ff-requires : tie.Need-rest-ff-requires Inv-loop μ-loop
+rest-ff-requires c κs = search needs
 
 returns-2 : tie.Need-returns-2 Inv-loop μ-loop
-returns-2 c = sym (blank-end (c .before .before .args .part .now) (c .before .loop .i) (omega arith)) ∙ c .before .loop .inv .1
+returns-2 c = c .«rest-ff» .ensures ∙ c .before .before .loop .inv .1
 
 pub all-ff-spec : {M : Type 1} → statement M
 all-ff-spec =
@@ -42,9 +56,11 @@ all-ff-spec =
     Inv-loop
     μ-loop
     loop-holds
-    shared-slice-read-if1
-    returns
+    sub-loop
+    eight-ff-requires
     add-i
     loop-less
     loop-again
+    returns
+    rest-ff-requires
     returns-2)

@@ -1,0 +1,1 @@
+// Rules for raw writes, of the driver on the modelled part: definitions and theorems alone, no code.
