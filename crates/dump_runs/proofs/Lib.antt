@@ -1,0 +1,11 @@
+pub mod Sums
+pub mod Scans
+pub mod Calls
+pub mod Whole
+pub mod Only
+pub mod Outcomes
+pub mod Follows
+pub mod Taken
+pub mod Promise
+pub mod Meeting
+pub mod Example

@@ -1,0 +1,4 @@
+pub mod Dumps
+pub mod Blocks
+pub mod Steps
+pub mod Host
