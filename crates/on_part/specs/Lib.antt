@@ -1,2 +1,3 @@
 pub mod OnPart
 pub mod Chosen
+pub mod Between
