@@ -1,0 +1,10 @@
+pub mod Powers
+pub mod Placing
+pub mod Lists
+pub mod Fields
+pub mod Codes
+pub mod Types
+pub mod Back
+pub mod Again
+pub mod Promised
+pub mod Examples
