@@ -1,4 +1,4 @@
-//! Times the proved functions (target/staticlib/libbench.a) against the Rust. docs/BENCH.md says how to read it.
+//! Times the proved functions (the archives of target/staticlib/) against the Rust. docs/BENCH.md says how to read it.
 //! The Rust is compiled with the oracle's stub of `log`, whose macros do nothing: no time goes into logging.
 //! A further bench: its inputs, a function of an input for each side, and in `main` one line `agree` and one `compare`.
 use spi_flash::{FlashParams, SFDPAddressBytes, SFDPEraseInst, SFDPStatus1Volatility, SFDPTiming};
@@ -18,6 +18,13 @@ extern "C" {
     fn mg_bench_program(address: u32, data: *const u8, len: usize, work: *mut u8, room: usize) -> u64;
 }
 
+#[link(name = "bench_parts", kind = "static")]
+extern "C" {
+    fn mg_bench_blank(bytes: *const u8, len: usize, n: u64) -> u64;
+    fn mg_bench_pack(session: *const u8, len: usize, out: *mut u8, room: usize, turns: u32);
+    fn mg_bench_unpack(session: *const u8, len: usize) -> u64;
+}
+
 #[link(name = "flash_c", kind = "static")]
 extern "C" {
     fn flash_new(session: *mut u8, len: usize) -> u8;
@@ -26,6 +33,12 @@ extern "C" {
     fn flash_program(
         session: *mut u8, len: usize, address: u32, data: *const u8, data_len: usize, verify: u8,
         work: *mut u8, work_len: usize, event: *mut u8, event_len: usize,
+    ) -> u8;
+    fn flash_event(session: *const u8, len: usize, event: *mut u8, event_len: usize) -> u8;
+    fn flash_read_params(session: *mut u8, len: usize, room: u64, event: *mut u8, event_len: usize) -> u8;
+    fn flash_make_erase_plan(
+        session: *const u8, len: usize, address: u32, length: u64,
+        entries: *mut u8, entries_len: usize, event: *mut u8, event_len: usize,
     ) -> u8;
     fn flash_step(
         session: *mut u8, len: usize, failed: u8, reply: *const u8, reply_len: usize,
@@ -43,10 +56,17 @@ fn main() {
         agree(list, |t| rust_sfdp(t, micros).wrapping_add(own_fields(t)), ours_sfdp);
     }
     agree(&PLANS, rust_plan, ours_plan);
+    let session = with_params();
+    agree(&PLANS, rust_plan, |n| plan_records(&session, n));
     let writes = [Write::new(0x1000, 4096), Write::new(0x2F10, 200), Write::new(0x3000, 16), Write::new(0x3FF0, 16)];
     agree(&writes, rust_program, ours_program);
     agree(&writes, rust_program, packed_program);
-    println!("{:<34} {:>6}   {}", "name", "ratio", "spread");
+    let blanks = [Blank::new(4096, 0xFF), Blank::new(65_536, 0xFF), Blank::new(4096, 0), Blank::new(65_536, 0)];
+    agree(&blanks, rust_blank, ours_blank);
+    let runs = [Run::new(Write::new(0x1000, 4096))];
+    assert!(runs[0].sessions.len() == 51 && runs[0].pack() == runs[0].middle());
+    assert!(runs[0].unpack() == 51 && runs[0].events() == 51 * 255);
+    println!("{:<35} {:>6}   {}", "name", "ratio", "spread");
     compare("sfdp table, mx66l1g45g", &part, |t| rust_sfdp(t, parts), ours_sfdp);
     compare("sfdp table, a mix", &tables, |t| rust_sfdp(t, parts), ours_sfdp);
     compare("the same part, the Rust's fields", &part, |t| rust_sfdp(t, parts), ours_sfdp_shared);
@@ -57,10 +77,19 @@ fn main() {
     compare("program of 200 bytes, by steps", &writes[1..2], rust_program, ours_program);
     compare("program of 16 bytes, FF after them", &writes[2..3], rust_program, ours_program);
     compare("program of 16 bytes, FF before them", &writes[3..], rust_program, ours_program);
-    compare("the same sector, by 256 bytes", &writes[..1], rust_program, packed_program);
-    compare("the same 200 bytes, by 256 bytes", &writes[1..2], rust_program, packed_program);
-    compare("sector, by 256 bytes : by value", &writes[..1], ours_program, packed_program);
-    compare("200 bytes, by 256 bytes : by value", &writes[1..2], ours_program, packed_program);
+    compare("all-FF test, 4,096 bytes", &blanks[..1], rust_blank, ours_blank);
+    compare("all-FF test, 65,536 bytes", &blanks[1..2], rust_blank, ours_blank);
+    compare("4,096 bytes, the last one 00", &blanks[2..3], rust_blank, ours_blank);
+    compare("65,536 bytes, the last one 00", &blanks[3..], rust_blank, ours_blank);
+    compare("program of a sector, by 256 bytes", &writes[..1], rust_program, packed_program);
+    compare("program of 200 bytes, by 256 bytes", &writes[1..2], rust_program, packed_program);
+    compare("plan of 16 MiB, as records for C", &PLANS[..1], rust_plan, |n| plan_records(&session, n));
+    println!("to ours by value:");
+    compare("sector, by 256 bytes", &writes[..1], ours_program, packed_program);
+    compare("200 bytes, by 256 bytes", &writes[1..2], ours_program, packed_program);
+    compare("sector, its 51 sessions packed", &runs, |r| ours_program(&r.write), |r| r.pack()[0] as u64);
+    compare("sector, its 51 sessions unpacked", &runs, |r| ours_program(&r.write), Run::unpack);
+    compare("sector, its 51 events told again", &runs, |r| ours_program(&r.write), Run::events);
 }
 
 // ---------------------------------------------------------------- measuring
@@ -107,7 +136,7 @@ fn compare<I>(name: &str, inputs: &[I], rust: impl Fn(&I) -> u64, ours: impl Fn(
     let mut ratios: Vec<f64> = (0..ROUNDS).map(|_| round(passes, inputs, &rust, &ours)).collect();
     ratios.sort_by(|a, b| a.partial_cmp(b).unwrap());
     let (least, greatest) = (ratios[0], ratios[ROUNDS - 1]);
-    println!("{:<34} {:>6.2}   {:.2} to {:.2}", name, ratios[ROUNDS / 2], least, greatest);
+    println!("{:<35} {:>6.2}   {:.2} to {:.2}", name, ratios[ROUNDS / 2], least, greatest);
 }
 
 // ---------------------------------------------------------------- a command, transaction by transaction
@@ -193,6 +222,11 @@ fn ours_program(w: &Write) -> u64 {
 
 /// The same by the exports: the session is packed and unpacked at each call.
 fn packed_program(w: &Write) -> u64 {
+    by_bytes(w, |_| ())
+}
+
+/// `each` sees the session's bytes before each step.
+fn by_bytes(w: &Write, mut each: impl FnMut(&[u8; 256])) -> u64 {
     let (mut session, mut event) = ([0u8; 256], [0u8; 64]);
     let (s, e) = (session.as_mut_ptr(), event.as_mut_ptr());
     let work = std::ptr::addr_of_mut!(WORK) as *mut u8;
@@ -213,11 +247,73 @@ fn packed_program(w: &Write) -> u64 {
             let tail = then(reply as u64, len as u64 + ends);
             folded = folded.wrapping_add(then(event[2] as u64, then(address as u64, tail)));
             let bytes = if event[36] == 1 { ready.as_ptr() } else { erased.as_ptr() };
+            each(&session);
             told = flash_step(s, 256, 0, bytes, reply, work, 4096, e, 64);
         }
         assert_eq!(0, told);
     }
     folded.wrapping_add(u64::from_le_bytes(event[40..48].try_into().unwrap()))
+}
+
+// ---------------------------------------------------------------- a session packed and unpacked
+
+/// A program, and the session's bytes before each of its steps.
+struct Run {
+    write: Write,
+    sessions: Vec<[u8; 256]>,
+}
+
+impl Run {
+    fn new(write: Write) -> Run {
+        let mut sessions = Vec::new();
+        by_bytes(&write, |s| sessions.push(*s));
+        Run { write, sessions }
+    }
+
+    fn middle(&self) -> [u8; 256] {
+        self.sessions[self.sessions.len() / 2]
+    }
+
+    /// One of them, packed as many times as there are steps.
+    fn pack(&self) -> [u8; 256] {
+        let (session, mut out) = (self.middle(), [0u8; 256]);
+        unsafe { mg_bench_pack(session.as_ptr(), 256, out.as_mut_ptr(), 256, self.sessions.len() as u32) };
+        out
+    }
+
+    /// The event of each told again: an unpacking and an event record.
+    fn events(&self) -> u64 {
+        let mut event = [0u8; 64];
+        self.sessions.iter().map(|s| unsafe { flash_event(s.as_ptr(), 256, event.as_mut_ptr(), 64) as u64 }).sum()
+    }
+
+    /// Each of them unpacked, with the tests: how many are sessions.
+    fn unpack(&self) -> u64 {
+        self.sessions.iter().map(|s| unsafe { mg_bench_unpack(s.as_ptr(), 256) }).sum()
+    }
+}
+
+// ---------------------------------------------------------------- the all-FF test
+
+struct Blank(Vec<u8>);
+
+impl Blank {
+    /// All FF but for the last byte.
+    fn new(length: usize, last: u8) -> Blank {
+        let mut bytes = vec![0xFF; length];
+        bytes[length - 1] = last;
+        Blank(bytes)
+    }
+}
+
+/// The Rust's test, as `read_erase_postamble` has it.
+#[inline(never)]
+fn rust_blank(b: &Blank) -> u64 {
+    b.0.iter().all(|x| *x == 0xFF) as u64
+}
+
+fn ours_blank(b: &Blank) -> u64 {
+    unsafe { mg_bench_blank(b.0.as_ptr(), b.0.len(), b.0.len() as u64) }
 }
 
 // ---------------------------------------------------------------- plans
@@ -234,6 +330,33 @@ fn rust_plan(length: &usize) -> u64 {
 
 fn ours_plan(length: &usize) -> u64 {
     unsafe { mg_bench_plan(4_096, 32_768, 65_536, (*length - 1) as u32) }
+}
+
+/// The same by the export, whose session has the three types from a part's table. The times are left out of the fold.
+fn plan_records(session: &[u8; 256], length: &usize) -> u64 {
+    let (mut entries, mut event) = ([0u8; 4096], [0u8; 64]);
+    let (list, e) = (entries.as_mut_ptr(), event.as_mut_ptr());
+    assert_eq!(0, unsafe { flash_make_erase_plan(session.as_ptr(), 256, 0, *length as u64, list, 4096, e, 64) });
+    let word = |r: &[u8], at: usize| u32::from_le_bytes(r[at..at + 4].try_into().unwrap()) as u64;
+    entries.chunks(16).fold(0, |sum, r| sum.wrapping_add(then(r[0] as u64, then(word(r, 4), word(r, 8)))))
+}
+
+/// A session that has read the parameters of the mx66l1g45g.
+fn with_params() -> [u8; 256] {
+    let (mut session, mut event, mut work) = ([0u8; 256], [0u8; 64], [0u8; 2056]);
+    let (s, e, w) = (session.as_mut_ptr(), event.as_mut_ptr(), work.as_mut_ptr());
+    let mut area = vec![0x53, 0x46, 0x44, 0x50, 6, 1, 0, 0xFF, 0, 6, 1, 16, 16, 0, 0, 0xFF];
+    area.extend(MX66L1G45G.iter().flat_map(|d| d.to_le_bytes().to_vec()));
+    unsafe {
+        assert_eq!(0, flash_new(s, 256));
+        let mut told = flash_read_params(s, 256, 2056, e, 64);
+        while told == 255 {
+            let (from, reply) = (event[5] as usize, event[8] as usize);
+            told = flash_step(s, 256, 0, area[from..].as_ptr(), reply, w, 2056, e, 64);
+        }
+        assert_eq!(0, told);
+    }
+    session
 }
 
 // ---------------------------------------------------------------- SFDP tables: the inputs

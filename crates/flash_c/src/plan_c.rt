@@ -1,52 +1,76 @@
 // The plan for C: each entry is a record of 16 bytes in a lent slice.
 ghost use mathlib.Core.Path.{_≡_};
-ghost use Prim.Native.Nat.{_+_, _*_, _/_, _≤_};
-ghost use lib.ListN.{length};
-ghost use Rattle.plans.specs.Planned.{plannedOf};
+ghost use Prim.Native.Nat.{_*_, _/_, _≤_};
+ghost use mathlib.Core.List.{_++_};
+ghost use lib.ListN.{length, drop};
+ghost use Rattle.packed.specs.Numbers.{fourOf};
+ghost use Rattle.plans.specs.Planned.{ahead, plannedOf};
 ghost use Rattle.flash_c.specs.Calls.{openedOf};
-ghost use Rattle.flash_c.specs.Plans.{queryOf, entryHead, entryTail, entryOver, entriesFrom, planNumber, planWords, planOver, planCalled};
+ghost use Rattle.flash_c.specs.Plans.{queryOf, entryBytes, recordsOf, planNumber, planWords, planOver, planCalled};
 use crate::Opened;
 use crate::records;
 use crate::records::EventWords;
 use erase_plan::EraseEntry;
 use flash::Session;
+use packed::Four;
 use plans::Begun;
 use plans::Cursor;
 use plans::PlanQuery;
 use plans::Planned;
 
-fn entry_head(e: EraseEntry) -> u64
-    ensures { λ r. ⌜ r ≡ entryHead e ⌝ }
+// A number's four bytes, the lowest first.
+fn four_of(x: u32) -> Four
+    ensures { λ r. ⌜ r ≡ fourOf x ⌝ }
 {
-    e.opcode as u64 + 256 * (e.timed as u64) + 0x1_0000_0000 * (e.size as u64)
+    let x1 = x / 256;
+    let x2 = x1 / 256;
+    let x3 = x2 / 256;
+    Four {
+        a: (x % 256) as u8,
+        b: (x1 % 256) as u8,
+        c: (x2 % 256) as u8,
+        d: (x3 % 256) as u8,
+    }
 }
 
-fn entry_tail(e: EraseEntry) -> u64
-    ensures { λ r. ⌜ r ≡ entryTail e ⌝ }
+// An entry's record.
+fn entry_bytes(e: EraseEntry) -> [u8; 16]
+    ensures { λ r. ⌜ r ≡ entryBytes e ⌝ }
 {
-    e.base as u64 + 0x1_0000_0000 * (e.time as u64)
+    let s = four_of(e.size);
+    let b = four_of(e.base);
+    let t = four_of(e.time);
+    [
+        e.opcode,
+        e.timed,
+        0,
+        0,
+        s.a,
+        s.b,
+        s.c,
+        s.d,
+        b.a,
+        b.b,
+        b.c,
+        b.d,
+        t.a,
+        t.b,
+        t.c,
+        t.d,
+    ]
 }
 
-// An entry's record, where it has room.
-fn write_entry(out: &mut [u8], at: u64, e: EraseEntry)
-    requires { ⌜ at ≤ 18446744073709551600 ⌝ }
-    ensures { λ _. ⌜ now (out .exit) ≡ entryOver at e (now (out .entry)) ⌝ }
-{
-    room::lay(out, at, &records::bytes_of(entry_head(e)));
-    room::lay(out, at + 8, &records::bytes_of(entry_tail(e)));
-}
-
-// So many entries from a cursor on.
+// So many entries from a cursor on, all that are ahead.
 fn write_entries(out: &mut [u8], n: u64, c: Cursor)
-    requires { ⌜ n ≤ 1152921504606846975 ⌝ }
-    ensures { λ _. ⌜ now (out .exit) ≡ entriesFrom 0 n c (now (out .entry)) ⌝ }
+    requires { ⌜ (n ≡ length (ahead c)) × (16 * n ≤ length (now out)) ⌝ }
+    ensures { λ _. ⌜ now (out .exit) ≡ recordsOf (ahead c) ++ drop (16 * n) (now (out .entry)) ⌝ }
 {
     let mut cursor = c;
     let mut k: u64 = 0;
     while k < n {
         let s = plans::advance(cursor);
         let e = s.entry;
-        write_entry(out, 16 * k, e);
+        room::lay(out, 16 * k, &entry_bytes(e));
         cursor = s.next;
         k += 1;
     }
