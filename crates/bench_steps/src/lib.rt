@@ -3,7 +3,7 @@ ghost use Prim.Native.Nat.{_≤_};
 use flash::Event;
 use flash::Session;
 use flash::Stepped;
-use flash::Transaction;
+use phases::Transaction;
 
 fn sum(a: u64, b: u64) -> u64 {
     std::num::wrapping_add_u64(a, b)

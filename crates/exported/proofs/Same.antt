@@ -9,7 +9,8 @@ use lib.ListN.{length}
 use borrow.Author.Tests.{le-ltb, eq-eqb}
 use Rattle.commands.specs.Calls.{Call}
 use Rattle.flash.specs.declared.Session.{Session}
-use Rattle.flash.specs.Steps.{Taken, stepOf, isEnded}
+use Rattle.phases.specs.Moves.{isEnded}
+use Rattle.flash.specs.Steps.{Taken, stepOf}
 use Rattle.on_part.specs.OnPart.{startOf}
 use Rattle.packed.specs.Numbers.{sameList}
 use Rattle.packed.specs.Layout.{bytesOf, sessionIn, putOver}

@@ -1,3 +1,3 @@
-pub mod Compare
 pub mod Accepted
 pub mod Phases
+pub mod Ways

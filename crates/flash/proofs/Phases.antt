@@ -1,34 +1,31 @@
--- What a phase asks for, whatever the session; and that a transaction does not look at the session's phase and polls.
+-- What a phase asks for is what its session's transaction asks for; a transaction does not look at the session's phase and polls; and
+-- a read that is no table leaves all but the phase.
 use Prim.Native.Nat.{ℕ}
-use mathlib.Core.Bool.{Bool, true, false, true≢false}
-use mathlib.Core.List.{[], _∷_}
+use mathlib.Core.Bool.{true, false, true≢false}
+use mathlib.Core.List.{List, [], _∷_}
 use mathlib.Core.Path.{_≡_, refl, sym, _∙_, ap}
 use denote.Enum.Declared.{tagOf}
 use types.Run.{OneOf, miss}
 use Rattle.settings.specs.declared.Settings.{Settings}
 use Rattle.erase_plan.specs.declared.Next.{Next}
 use Rattle.erase_plan.specs.declared.Next.the-variants.{Nothing, Entry}
-use Rattle.flash.specs.declared.ReadCommand.{ReadCommand}
-use Rattle.flash.specs.declared.ReadCommand.the-variants as Reads
-use Rattle.flash.specs.declared.EraseCommand.{EraseCommand}
-use Rattle.flash.specs.declared.EraseCommand.the-variants as Erases
-use Rattle.flash.specs.declared.WriteCommand.{WriteCommand}
-use Rattle.flash.specs.declared.WriteCommand.the-variants as Writes
-use Rattle.flash.specs.declared.PollCommand.{PollCommand}
-use Rattle.flash.specs.declared.VerifyCommand.{VerifyCommand}
-use Rattle.flash.specs.declared.VerifyCommand.the-variants as Verifies
-use Rattle.flash.specs.declared.ResetCommand.{ResetCommand}
-use Rattle.flash.specs.declared.ResetCommand.the-variants as Resets
-use Rattle.flash.specs.declared.Phase.{Phase}
-use Rattle.flash.specs.declared.Phase.the-variants.{Reading, Erasing, Writing, Polling, Verifying, Resetting, Ended}
+use Rattle.phases.specs.declared.ReadCommand.{ReadCommand}
+use Rattle.phases.specs.declared.ReadCommand.the-variants as Reads
+use Rattle.phases.specs.declared.EraseCommand.{EraseCommand}
+use Rattle.phases.specs.declared.EraseCommand.the-variants as Erases
+use Rattle.phases.specs.declared.WriteCommand.{WriteCommand}
+use Rattle.phases.specs.declared.WriteCommand.the-variants as Writes
+use Rattle.phases.specs.declared.VerifyCommand.the-variants as Verifies
+use Rattle.phases.specs.declared.ResetCommand.the-variants as Resets
+use Rattle.phases.specs.declared.Phase.{Phase}
+use Rattle.phases.specs.declared.Phase.the-variants.{Reading, Erasing, Writing, Polling, Verifying, Resetting, Ended}
+use Rattle.phases.specs.Waits.{readTx, blockTx, pageTx, writeTx, verifyTx, resetTx, isPoll, replyOf}
+use Rattle.phases.specs.Moves.{afterRead, isTable}
+use Rattle.phases.proofs.Phase as Phase-enum
 use Rattle.flash.specs.declared.Session.{Session}
-use Rattle.flash.specs.declared.Command.{Command}
-use Rattle.commands.specs.declared.Answer.{Answer}
 use Rattle.flash.specs.declared.Event.the-variants.{Send}
-use Rattle.flash.specs.Waits.{readTx, entryFor, blockTx, eraseTx, pageTx, pagePause, writeTx, flagged, pollTx, verifyTx, resetTx, waitsOn, eventOf, inPhase}
-use Rattle.flash.specs.Steps.{isTable, ofTable, isEnded}
-use Rattle.flash.proofs.ReadCommand as ReadCommand-enum
-use Rattle.flash.proofs.Phase as Phase-enum
+use Rattle.flash.specs.Waits.{entryFor, eraseTx, pagePause, flagged, pollTx, waitsOn, eventOf, inPhase}
+use Rattle.flash.specs.Steps.{goes, readOn}
 
 -- ---- is it a poll
 read-poll : (x : Settings) (c : ReadCommand) → readTx x c .poll ≡ false
@@ -55,46 +52,27 @@ erase-poll s Erases.Chip = refl
 erase-poll s (Erases.Sectors at last) = block-poll _ _
 erase-poll s (Erases.Program J at) = block-poll _ _
 
-write-poll : (s : Session) (c : WriteCommand) → writeTx s c .poll ≡ false
+write-poll : (x : Settings) (pause : ℕ) (c : WriteCommand) → writeTx x pause c .poll ≡ false
 unfolding writeTx pageTx
-write-poll s (Writes.Program J to off) = refl
-write-poll s (Writes.Data a to off) = refl
+write-poll x pause (Writes.Program J to off) = refl
+write-poll x pause (Writes.Data a to off) = refl
 
-pub poll-reading : (s : Session) (c : ReadCommand) → waitsOn s (Reading c) .poll ≡ false
-unfolding waitsOn
-poll-reading s c = read-poll (s .settings) c
-
-pub poll-erasing : (s : Session) (c : EraseCommand) (e : Bool) → waitsOn s (Erasing c e) .poll ≡ false
-unfolding waitsOn
-poll-erasing s c true = erase-poll s c
-poll-erasing s c false = refl
-
-pub poll-writing : (s : Session) (c : WriteCommand) (e : Bool) → waitsOn s (Writing c e) .poll ≡ false
-unfolding waitsOn
-poll-writing s c true = write-poll s c
-poll-writing s c false = refl
-
-pub poll-polling : (s : Session) (c : PollCommand) (left : ℕ) → waitsOn s (Polling c left) .poll ≡ true
-unfolding waitsOn pollTx
-poll-polling s c left = refl
-
-pub poll-verifying : (s : Session) (c : VerifyCommand) → waitsOn s (Verifying c) .poll ≡ false
-unfolding waitsOn verifyTx
-poll-verifying s (Verifies.Compare J to) = refl
-poll-verifying s (Verifies.Tell J m) = refl
-
-pub poll-resetting : (s : Session) (c : ResetCommand) → waitsOn s (Resetting c) .poll ≡ false
-unfolding waitsOn resetTx
-poll-resetting s Resets.Enable = refl
-poll-resetting s Resets.Reset = refl
-poll-resetting s Resets.F0 = refl
+pub poll-same : (s : Session) (p : Phase) → isPoll p ≡ waitsOn s p .poll
+unfolding isPoll waitsOn pollTx verifyTx resetTx
+poll-same s (Reading c) = sym (read-poll (s .settings) c)
+poll-same s (Erasing c true) = sym (erase-poll s c)
+poll-same s (Erasing c false) = refl
+poll-same s (Writing c true) = sym (write-poll (s .settings) (pagePause s) c)
+poll-same s (Writing c false) = refl
+poll-same s (Polling c left) = refl
+poll-same s (Verifying (Verifies.Compare J to)) = refl
+poll-same s (Verifying (Verifies.Tell J m)) = refl
+poll-same s (Resetting Resets.Enable) = refl
+poll-same s (Resetting Resets.Reset) = refl
+poll-same s (Resetting Resets.F0) = refl
+poll-same s (Ended c a) = refl
 
 -- ---- how many bytes it asks for
-pub reply-read : (x : Settings) (legacy : Bool) (a n : ℕ) → readTx x (Reads.Read legacy a n) .reply ≡ n
-unfolding readTx
-reply-read x true a n = refl
-reply-read x false a n = refl
-
 block-reply : (b : ℕ) (x : Next) → blockTx b x .reply ≡ 0
 unfolding blockTx
 block-reply b Nothing = refl
@@ -106,26 +84,28 @@ erase-reply s Erases.Chip = refl
 erase-reply s (Erases.Sectors at last) = block-reply _ _
 erase-reply s (Erases.Program J at) = block-reply _ _
 
-write-reply : (s : Session) (c : WriteCommand) → writeTx s c .reply ≡ 0
+write-reply : (x : Settings) (pause : ℕ) (c : WriteCommand) → writeTx x pause c .reply ≡ 0
 unfolding writeTx pageTx
-write-reply s (Writes.Program J to off) = refl
-write-reply s (Writes.Data a to off) = refl
+write-reply x pause (Writes.Program J to off) = refl
+write-reply x pause (Writes.Data a to off) = refl
 
-pub reply-erasing : (s : Session) (c : EraseCommand) (e : Bool) → waitsOn s (Erasing c e) .reply ≡ 0
-unfolding waitsOn
-reply-erasing s c true = erase-reply s c
-reply-erasing s c false = refl
+pub reply-same : (s : Session) (p : Phase) → replyOf (s .settings) p ≡ waitsOn s p .reply
+unfolding replyOf waitsOn pollTx resetTx
+reply-same s (Reading c) = refl
+reply-same s (Erasing c true) = sym (erase-reply s c)
+reply-same s (Erasing c false) = refl
+reply-same s (Writing c true) = sym (write-reply (s .settings) (pagePause s) c)
+reply-same s (Writing c false) = refl
+reply-same s (Polling c left) = refl
+reply-same s (Verifying c) = refl
+reply-same s (Resetting Resets.Enable) = refl
+reply-same s (Resetting Resets.Reset) = refl
+reply-same s (Resetting Resets.F0) = refl
+reply-same s (Ended c a) = refl
 
-pub reply-writing : (s : Session) (c : WriteCommand) (e : Bool) → waitsOn s (Writing c e) .reply ≡ 0
-unfolding waitsOn
-reply-writing s c true = write-reply s c
-reply-writing s c false = refl
-
-pub reply-resetting : (s : Session) (c : ResetCommand) → waitsOn s (Resetting c) .reply ≡ 0
-unfolding waitsOn resetTx
-reply-resetting s Resets.Enable = refl
-reply-resetting s Resets.Reset = refl
-reply-resetting s Resets.F0 = refl
+-- a number that is asked for by all settings is what the session's transaction asks for
+pub reply-is : (s : Session) (p : Phase) (n : ℕ) → ((x : Settings) → n ≡ replyOf x p) → n ≡ waitsOn s p .reply
+reply-is s p n f = f (s .settings) ∙ reply-same s p
 
 -- ---- the event of a phase that runs
 pub waits-same : (s : Session) (q : Phase) (n : ℕ) (p : Phase) → waitsOn (inPhase s q n) p ≡ waitsOn s p
@@ -152,44 +132,15 @@ event-runs s n (Verifying c) h = ap Send (sym (waits-same s (Verifying c) n (Ver
 event-runs s n (Resetting c) h = ap Send (sym (waits-same s (Resetting c) n (Resetting c)))
 event-runs s n (Ended c a) h = absurd (miss (0 ∷ 1 ∷ 2 ∷ 3 ∷ 4 ∷ 5 ∷ []) 6 tt h)
 
--- ---- what is no table
-pub not-table : (c : ReadCommand) → OneOf (0 ∷ 1 ∷ 2 ∷ 4 ∷ 5 ∷ 6 ∷ 7 ∷ 8 ∷ []) (tagOf ReadCommand-enum.the-type c) → isTable c ≡ false
-unfolding isTable
-not-table (Reads.Read legacy a n) h = refl
-not-table Reads.Header h = refl
-not-table (Reads.Headers more) h = refl
-not-table (Reads.Table minor plen ptp) h = absurd (miss (0 ∷ 1 ∷ 2 ∷ 4 ∷ 5 ∷ 6 ∷ 7 ∷ 8 ∷ []) 3 tt h)
-not-table (Reads.Before J) h = refl
-not-table (Reads.After J) h = refl
-not-table Reads.Id h = refl
-not-table Reads.IdAgain h = refl
-not-table Reads.Protected h = refl
-
-pub not-reading : (p : Phase) → OneOf (1 ∷ 2 ∷ 3 ∷ 4 ∷ 5 ∷ 6 ∷ []) (tagOf Phase-enum.the-type p) → ofTable p ≡ false
-unfolding ofTable
-not-reading (Reading c) h = absurd (miss (1 ∷ 2 ∷ 3 ∷ 4 ∷ 5 ∷ 6 ∷ []) 0 tt h)
-not-reading (Erasing c e) h = refl
-not-reading (Writing c e) h = refl
-not-reading (Polling c left) h = refl
-not-reading (Verifying c) h = refl
-not-reading (Resetting c) h = refl
-not-reading (Ended c a) h = refl
-
-pub table-not : (c : ReadCommand) (minor plen ptp : ℕ) → c ≡ Reads.Table minor plen ptp → isTable c ≡ false → ⊥
-unfolding isTable
-table-not c minor plen ptp e n = true≢false (sym (ap isTable e) ∙ n)
-
-pub read-no-table : (p : Phase) (c : ReadCommand) → p ≡ Reading c → ofTable p ≡ false → isTable c ≡ false
-unfolding ofTable
-read-no-table p c e n = sym (ap ofTable e) ∙ n
-
-pub ended-runs : (p : Phase) (c : Command) (a : Answer) → p ≡ Ended c a → isEnded p ≡ false → ⊥
-unfolding isEnded
-ended-runs p c a e n = true≢false (sym (ap isEnded e) ∙ n)
-
-pub no-table-read : (p : Phase) (c : ReadCommand) → p ≡ Reading c → OneOf (0 ∷ 1 ∷ 2 ∷ 4 ∷ 5 ∷ 6 ∷ 7 ∷ 8 ∷ []) (tagOf ReadCommand-enum.the-type c) → ofTable p ≡ true → ⊥
-unfolding ofTable
-no-table-read p c e h t = true≢false (sym t ∙ ap ofTable e ∙ not-table c h)
-
-pub no-reading : (p : Phase) → OneOf (1 ∷ 2 ∷ 3 ∷ 4 ∷ 5 ∷ 6 ∷ []) (tagOf Phase-enum.the-type p) → ofTable p ≡ true → ⊥
-no-reading p h t = true≢false (sym t ∙ not-reading p h)
+-- ---- a read that is no table
+pub read-goes : (s : Session) (n : ℕ) (c : ReadCommand) (r : List ℕ) → isTable c ≡ false → readOn s n c r ≡ goes s n (afterRead c r)
+unfolding readOn isTable
+read-goes s n (Reads.Read legacy a k) r h = refl
+read-goes s n Reads.Header r h = refl
+read-goes s n (Reads.Headers more) r h = refl
+read-goes s n (Reads.Table minor plen ptp) r h = absurd (true≢false h)
+read-goes s n (Reads.Before J) r h = refl
+read-goes s n (Reads.After J) r h = refl
+read-goes s n Reads.Id r h = refl
+read-goes s n Reads.IdAgain r h = refl
+read-goes s n Reads.Protected r h = refl

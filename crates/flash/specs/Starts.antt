@@ -12,27 +12,28 @@ use Rattle.settings.specs.declared.SetAnswer.the-variants.{Set, BadSetting as R
 use Rattle.settings.specs.Limits.{defaults}
 use Rattle.commands.specs.declared.Answer.{Answer}
 use Rattle.commands.specs.declared.Answer.the-variants.{Done, InvalidAddress, NoResetInstruction, NoEraseInstruction, BadSetting, NoRoom, BadSession}
-use Rattle.flash.specs.declared.Job.{Job}
-use Rattle.flash.specs.declared.ReadCommand.the-variants as Reads
-use Rattle.flash.specs.declared.EraseCommand.the-variants as Erases
-use Rattle.flash.specs.declared.WriteCommand.the-variants as Writes
-use Rattle.flash.specs.declared.PollCommand.the-variants as Polls
-use Rattle.flash.specs.declared.ResetCommand.the-variants as Resets
-use Rattle.flash.specs.declared.Command.the-variants as Ends
-use Rattle.flash.specs.declared.Phase.{Phase}
-use Rattle.flash.specs.declared.Phase.the-variants.{Reading, Erasing, Writing, Polling, Resetting, Ended}
+use Rattle.phases.specs.declared.Job.{Job}
+use Rattle.phases.specs.declared.ReadCommand.the-variants as Reads
+use Rattle.phases.specs.declared.EraseCommand.the-variants as Erases
+use Rattle.phases.specs.declared.WriteCommand.the-variants as Writes
+use Rattle.phases.specs.declared.PollCommand.the-variants as Polls
+use Rattle.phases.specs.declared.ResetCommand.the-variants as Resets
+use Rattle.phases.specs.declared.Command.the-variants as Ends
+use Rattle.phases.specs.declared.Phase.{Phase}
+use Rattle.phases.specs.declared.Phase.the-variants.{Reading, Erasing, Writing, Polling, Resetting, Ended}
 use Rattle.flash.specs.declared.Session.{Session}
 use Rattle.flash.specs.declared.Event.the-variants.{Answered}
 use Rattle.flash.specs.declared.Stepped.{Stepped}
-use Rattle.flash.specs.declared.Start.{Start}
-use Rattle.flash.specs.declared.Start.the-variants.{Stays as stays, Begins as begins}
+use Rattle.flash.specs.declared.First.{First}
+use Rattle.flash.specs.declared.First.the-variants as Firsts
 use Rattle.erase_plan.specs.declared.Surveyed.{Surveyed}
 use Rattle.erase_plan.specs.declared.SpanCheck.{SpanCheck}
 use Rattle.erase_plan.specs.declared.SpanCheck.the-variants as Span
 use Rattle.erase_plan.specs.Plan.{plan}
 use Rattle.erase_plan.specs.Span.{surveyOf, spanCheck}
 use Rattle.flash.specs.Waits.{typesOf, told}
-use Rattle.flash.specs.Steps.{goes, ends, toBefore, isEnded, Taken}
+use Rattle.phases.specs.Moves.{toBefore, isEnded}
+use Rattle.flash.specs.Steps.{goes, ends, Taken}
 use Rattle.room.specs.Room.{laid}
 
 -- a refused start: the answer, no poll, and the session as it was
@@ -103,6 +104,10 @@ startIsProtected s = unlessRuns s (starts s (Reading Reads.Protected))
 
 -- ---- the commands with data, which are copied into the lent room once nothing is refused
 -- such a start stays refused, or begins, and then the data are laid over the room from a place on
+pub data Start : Type 0 where
+  stays : Stepped → Start
+  begins : ℕ → Session → Start
+
 abbrev pub startOut : Start → Stepped
 startOut (stays x) = x
 startOut (begins at s) = told s
@@ -110,6 +115,12 @@ startOut (begins at s) = told s
 abbrev pub startRoom : Start → List ℕ → List ℕ → List ℕ
 startRoom (stays x) d room = room
 startRoom (begins at s) d room = laid at d room
+
+-- the start that a session's beginning comes to
+abbrev pub startOf : Session → First → Start
+startOf s (Firsts.Refused a) = stays (refused s a)
+startOf s Firsts.Over = stays (told (ends s 0 Ends.Other Done))
+startOf s (Firsts.Goes at p) = begins at (goes s 0 p)
 
 -- the checks again, over such starts
 abbrev pub checked : Bool → Session → Answer → Start → Start

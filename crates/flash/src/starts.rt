@@ -1,33 +1,32 @@
 // The starts, the setters, and the fresh session.
 ghost use mathlib.Core.Path.{_≡_};
-ghost use mathlib.Core.Bool.{false, true, not, _&&_, _||_};
-ghost use Prim.Native.Nat.{_+_, _-_};
-ghost use lib.ListN.{length};
-ghost use lib.Dec.{eqb};
-ghost use Rattle.erase_plan.specs.Plan.{plan};
-ghost use Rattle.erase_plan.specs.Span.{surveyOf};
-ghost use Rattle.settings.specs.Ranges.{acceptedRange};
+ghost use mathlib.Core.Bool.{false, true, cond, not, _&&_, _||_};
+ghost use lib.Dec.{ltb};
+ghost use Prim.Native.Nat.{_+_};
+ghost use Rattle.erase_plan.specs.Types.{present};
 ghost use Rattle.settings.specs.Limits.{setAddressBytes, setPageSize, setEraseSize, setPollLimit, setCapacity, clearCapacity, setEraseOpcode};
+ghost use Rattle.phases.specs.Moves.{isEnded};
 ghost use Rattle.flash.specs.Waits.{typesOf};
-ghost use Rattle.flash.specs.Starts.{refused, starts, unlessRuns, inRange, roomFor, startRead, startReadParams, startErase, startEraseSectors, beginSectors, startReset, startReadJedecId, startIsBusy, startIsProtected, beginProgram, beginSpan, startProgram, beginData, startProgramData, fresh, setting, setTo};
-use crate::Command;
-use crate::EraseCommand;
+ghost use Rattle.flash.specs.Starts.{refused, starts, unlessRuns, startRead, startReadParams, startErase, startEraseSectors, beginSectors, startReset, startReadJedecId, startIsBusy, startIsProtected, startOut, startRoom, startOf, beginProgram, beginSpan, startProgram, beginData, startProgramData, fresh, setting, setTo};
 use crate::Event;
-use crate::Job;
-use crate::Phase;
-use crate::PollCommand;
-use crate::ReadCommand;
-use crate::ResetCommand;
+use crate::First;
 use crate::Session;
-use crate::Start;
 use crate::Stepped;
-use crate::WriteCommand;
-use crate::ends;
-use crate::minus;
 use crate::reads;
 use commands::Answer;
+use erase_plan::EraseTypes;
 use erase_plan::SpanCheck;
 use erase_plan::Surveyed;
+use phases::Command;
+use phases::EraseCommand;
+use phases::Job;
+use phases::Phase;
+use phases::PollCommand;
+use phases::ReadCommand;
+use phases::ResetCommand;
+use phases::WriteCommand;
+use phases::ends;
+use phases::minus;
 use settings::BadRange;
 use settings::RangeCheck;
 use settings::SetAnswer;
@@ -61,72 +60,91 @@ fn unless_runs(s: Session, next: Stepped) -> Stepped
     }
 }
 
-fn in_range(s: Session, a: u32, n: u64, next: Stepped) -> Stepped
-    ensures { λ r. ⌜ r ≡ inRange s a n next ⌝ }
+// The start of a session that such a beginning leads to.
+fn started(s: Session, f: First) -> Stepped
+    ensures { λ r. ⌜ r ≡ startOut (startOf s f) ⌝ }
 {
-    let settings = s.settings;
-    match settings.check_address_length(a, n) {
-        RangeCheck::Fits => next,
-        RangeCheck::InvalidAddress(report) => refuse(s, Answer::InvalidAddress(report)),
+    match f {
+        First::Refused(a) => refuse(s, a),
+        First::Over => reads::ended(s, 0, Command::Other, Answer::Done).tell(),
+        First::Goes(_, p) => begin(s, p),
     }
 }
 
-fn room_for(s: Session, n: u64, len: u64, next: Stepped) -> Stepped
-    ensures { λ r. ⌜ r ≡ roomFor s n len next ⌝ }
+// The data are laid over the room once nothing is refused.
+fn lay_first(f: First, d: &[u8], work: &mut [u8])
+    ensures { λ r. ⌜ ((s : Session) → now (work .exit) ≡ startRoom (startOf s f) (now (d .entry)) (now (work .entry))) ⌝ }
 {
-    if len < n {
-        refuse(s, Answer::NoRoom(n))
+    match f {
+        First::Refused(_) => {}
+        First::Over => {}
+        First::Goes(at, _) => room::lay(work, at, d),
+    }
+}
+
+// ---- how commands begin, apart from the session
+
+// 11, or the first phase.
+fn roomed(need: u64, len: u64, p: Phase) -> First
+    ensures { λ r. ⌜ r ≡ cond (ltb len need) (First.Refused (Answer.NoRoom need)) (First.Goes 0 p) ⌝ }
+{
+    if len < need {
+        First::Refused(Answer::NoRoom(need))
     } else {
-        next
+        First::Goes(0, p)
     }
 }
 
-// The survey of the plan from a position to a last address.
-fn survey_of(s: Session, a: u32, last: u32) -> Surveyed
-    ensures { λ r. ⌜ r ≡ surveyOf (plan (typesOf s) a (last + 1)) ⌝ }
+fn begin_read(x: Settings, legacy: bool, a: u32, n: u64, len: u64) -> First
+    ensures { λ r. ⌜ ((s : Session) → s .settings ≡ x → unlessRuns s (startOut (startOf s r)) ≡ startRead s legacy a n len) ⌝ }
 {
-    let settings = s.settings;
-    let params = s.params;
-    erase_plan::survey(plans::erase_types(settings, s.known, params), a, last)
-}
-
-fn has_no_types(s: Session) -> bool
-    ensures { λ r. ⌜ r ≡ eqb (length (typesOf s)) 0 ⌝ }
-{
-    let settings = s.settings;
-    let params = s.params;
-    plans::is_empty(plans::erase_types(settings, s.known, params))
-}
-
-// A range of sectors that is accepted.
-fn begin_sectors(s: Session, a: u32, n: u64) -> Stepped
-    requires { ⌜ acceptedRange (s .settings) a n ≡ true ⌝ }
-    ensures { λ r. ⌜ r ≡ beginSectors s a n ⌝ }
-{
-    if has_no_types(s) {
-        return refuse(s, Answer::NoEraseInstruction);
+    match x.check_address_length(a, n) {
+        RangeCheck::InvalidAddress(report) => First::Refused(Answer::InvalidAddress(report)),
+        RangeCheck::Fits => roomed(
+            n,
+            len,
+            Phase::Reading {
+                command: ReadCommand::Read(legacy, a, n),
+            },
+        ),
     }
-    let last = (a as u64 + (n - 1)) as u32;
-    let span = survey_of(s, a, last);
+}
+
+// The erase types of a session.
+fn types_of(s: Session) -> EraseTypes
+    ensures { λ r. ⌜ typesOf s ≡ present r ⌝ }
+{
+    let settings = s.settings;
+    let params = s.params;
+    plans::erase_types(settings, s.known, params)
+}
+
+// Of an accepted range: 7, 5 for the span, or the first entry of the plan.
+fn plan_sectors(types: EraseTypes, a: u32, n: u64, last: u32) -> First
+    ensures { λ r. ⌜ ((s : Session) → typesOf s ≡ present types → last + 1 ≡ a + n → startOut (startOf s r) ≡ beginSectors s a n) ⌝ }
+{
+    if plans::is_empty(types) {
+        return First::Refused(Answer::NoEraseInstruction);
+    }
+    let span = erase_plan::survey(types, a, last);
     match erase_plan::check_span(a, n, span.first, span.end) {
-        SpanCheck::Fits => begin(
-            s,
+        SpanCheck::Fits => First::Goes(
+            0,
             Phase::Erasing {
                 command: EraseCommand::Sectors(a, last),
                 enabled: false,
             },
         ),
-        SpanCheck::Bad(at) => refuse(s, Answer::InvalidAddress(BadRange { last: at })),
+        SpanCheck::Bad(at) => First::Refused(Answer::InvalidAddress(BadRange { last: at })),
     }
 }
 
-fn sectors_in_range(s: Session, a: u32, n: u64) -> Stepped
-    ensures { λ r. ⌜ r ≡ inRange s a n (beginSectors s a n) ⌝ }
+fn begin_sectors(x: Settings, types: EraseTypes, a: u32, n: u64) -> First
+    ensures { λ r. ⌜ ((s : Session) → s .settings ≡ x → typesOf s ≡ present types → unlessRuns s (startOut (startOf s r)) ≡ startEraseSectors s a n) ⌝ }
 {
-    let settings = s.settings;
-    match settings.check_address_length(a, n) {
-        RangeCheck::Fits => begin_sectors(s, a, n),
-        RangeCheck::InvalidAddress(report) => refuse(s, Answer::InvalidAddress(report)),
+    match x.check_address_length(a, n) {
+        RangeCheck::InvalidAddress(report) => First::Refused(Answer::InvalidAddress(report)),
+        RangeCheck::Fits => plan_sectors(types, a, n, (a as u64 + (n - 1)) as u32),
     }
 }
 
@@ -142,85 +160,103 @@ fn by_66(s: Session) -> bool
     }
 }
 
-// A program's span is known: 5 if it passes the limits, 11, or the first phase.
-fn begin_span(s: Session, a: u32, last: u32, v: bool, span: Surveyed, len: u64) -> Start
-    ensures { λ r. ⌜ r ≡ beginSpan s a last v span len ⌝ }
+// Which reset, or 6.
+fn begin_reset(s: Session) -> First
+    ensures { λ r. ⌜ unlessRuns s (startOut (startOf s r)) ≡ startReset s ⌝ }
 {
-    let settings = s.settings;
+    let p = s.params;
+    if by_66(s) {
+        return First::Goes(
+            0,
+            Phase::Resetting {
+                command: ResetCommand::Enable,
+            },
+        );
+    }
+    if p.reset_inst_f0 {
+        First::Goes(
+            0,
+            Phase::Resetting {
+                command: ResetCommand::F0,
+            },
+        )
+    } else {
+        First::Refused(Answer::NoResetInstruction)
+    }
+}
+
+// A program's span is known: 5 if it passes the limits, 11, or the first phase.
+fn begin_span(x: Settings, a: u32, last: u32, v: bool, span: Surveyed, len: u64) -> First
+    ensures { λ r. ⌜ ((s : Session) → s .settings ≡ x → startOf s r ≡ beginSpan s a last v span len) ⌝ }
+{
     let size = minus(span.end, span.first as u64);
-    match settings.check_address_length(span.first, size) {
-        RangeCheck::InvalidAddress(report) => {
-            Start::Stays(refuse(s, Answer::InvalidAddress(report)))
-        }
+    match x.check_address_length(span.first, size) {
+        RangeCheck::InvalidAddress(report) => First::Refused(Answer::InvalidAddress(report)),
         RangeCheck::Fits => {
             if len < size {
-                Start::Stays(refuse(s, Answer::NoRoom(size)))
-            } else {
-                let job = Job {
-                    from: a,
-                    last: last,
-                    base: span.first,
-                    top: (span.end - 1) as u32,
-                    verified: v,
-                };
-                let at = minus(a as u64, span.first as u64);
-                Start::Begins(at, s.goes(reads::to_before(job), 0))
+                return First::Refused(Answer::NoRoom(size));
             }
+            let job = Job {
+                from: a,
+                last: last,
+                base: span.first,
+                top: (span.end - 1) as u32,
+                verified: v,
+            };
+            let at = minus(a as u64, span.first as u64);
+            First::Goes(at, phases::reads::to_before(job))
         }
     }
 }
 
-fn begin_program(s: Session, a: u32, n: u64, v: bool, len: u64) -> Start
-    ensures { λ r. ⌜ r ≡ beginProgram s a n v len ⌝ }
+fn begin_program(
+    ended: bool,
+    x: Settings,
+    types: EraseTypes,
+    a: u32,
+    n: u64,
+    v: bool,
+    len: u64,
+) -> First
+    ensures { λ r. ⌜ ((s : Session) → isEnded (s .phase) ≡ ended → s .settings ≡ x → typesOf s ≡ present types → startOf s r ≡ beginProgram s a n v len) ⌝ }
 {
-    let p = s.phase;
-    let settings = s.settings;
-    if ends::is_ended(p) {
-        match settings.check_address_length(a, n) {
-            RangeCheck::InvalidAddress(report) => {
-                Start::Stays(refuse(s, Answer::InvalidAddress(report)))
-            }
+    if ended {
+        match x.check_address_length(a, n) {
+            RangeCheck::InvalidAddress(report) => First::Refused(Answer::InvalidAddress(report)),
             RangeCheck::Fits => {
-                if has_no_types(s) {
-                    return Start::Stays(refuse(s, Answer::NoEraseInstruction));
+                if plans::is_empty(types) {
+                    return First::Refused(Answer::NoEraseInstruction);
                 }
                 let last = (a as u64 + (n - 1)) as u32;
-                begin_span(s, a, last, v, survey_of(s, a, last), len)
+                begin_span(x, a, last, v, erase_plan::survey(types, a, last), len)
             }
         }
     } else {
-        Start::Stays(refuse(s, Answer::BadSession))
+        First::Refused(Answer::BadSession)
     }
 }
 
 // Without data Done at any address.
-fn begin_data(s: Session, a: u32, n: u64, len: u64) -> Start
-    ensures { λ r. ⌜ r ≡ beginData s a n len ⌝ }
+fn begin_data(ended: bool, x: Settings, a: u32, n: u64, len: u64) -> First
+    ensures { λ r. ⌜ ((s : Session) → isEnded (s .phase) ≡ ended → s .settings ≡ x → startOf s r ≡ beginData s a n len) ⌝ }
 {
-    let p = s.phase;
-    let settings = s.settings;
-    if ends::is_ended(p) {
+    if ended {
         if n == 0 {
-            return Start::Stays(reads::ended(s, 0, Command::Other, Answer::Done).tell());
+            return First::Over;
         }
-        match settings.check_address_length(a, n) {
-            RangeCheck::InvalidAddress(report) => {
-                Start::Stays(refuse(s, Answer::InvalidAddress(report)))
-            }
-            RangeCheck::Fits => {
-                if len < n {
-                    Start::Stays(refuse(s, Answer::NoRoom(n)))
-                } else {
-                    let first = Phase::Writing {
-                        command: WriteCommand::Data(a, (n - 1) as u32, 0),
-                        enabled: false,
-                    };
-                    Start::Begins(0, s.goes(first, 0))
-                }
-            }
+        match x.check_address_length(a, n) {
+            RangeCheck::InvalidAddress(report) => First::Refused(Answer::InvalidAddress(report)),
+            RangeCheck::Fits => roomed(
+                n,
+                len,
+                Phase::Writing {
+                    command: WriteCommand::Data(a, (n - 1) as u32, 0),
+                    enabled: false,
+                },
+            ),
         }
     } else {
-        Start::Stays(refuse(s, Answer::BadSession))
+        First::Refused(Answer::BadSession)
     }
 }
 
@@ -325,34 +361,20 @@ impl Session {
     pub fn read(self, address: u32, length: u64, len: u64) -> Stepped
         ensures { λ r. ⌜ r ≡ startRead self false address «length» len ⌝ }
     {
-        let first = Phase::Reading {
-            command: ReadCommand::Read(false, address, length),
-        };
+        let settings = self.settings;
         unless_runs(
             self,
-            in_range(
-                self,
-                address,
-                length,
-                room_for(self, length, len, begin(self, first)),
-            ),
+            started(self, begin_read(settings, false, address, length, len)),
         )
     }
 
     pub fn legacy_read(self, address: u32, length: u64, len: u64) -> Stepped
         ensures { λ r. ⌜ r ≡ startRead self true address «length» len ⌝ }
     {
-        let first = Phase::Reading {
-            command: ReadCommand::Read(true, address, length),
-        };
+        let settings = self.settings;
         unless_runs(
             self,
-            in_range(
-                self,
-                address,
-                length,
-                room_for(self, length, len, begin(self, first)),
-            ),
+            started(self, begin_read(settings, true, address, length, len)),
         )
     }
 
@@ -362,7 +384,7 @@ impl Session {
         let first = Phase::Reading {
             command: ReadCommand::Header,
         };
-        unless_runs(self, room_for(self, 2056, len, begin(self, first)))
+        unless_runs(self, started(self, roomed(2056, len, first)))
     }
 
     // The whole chip.
@@ -379,50 +401,49 @@ impl Session {
     pub fn erase_sectors(self, address: u32, length: u64) -> Stepped
         ensures { λ r. ⌜ r ≡ startEraseSectors self address «length» ⌝ }
     {
-        unless_runs(self, sectors_in_range(self, address, length))
+        let settings = self.settings;
+        let first = begin_sectors(settings, types_of(self), address, length);
+        unless_runs(self, started(self, first))
     }
 
     pub fn program(self, address: u32, data: &[u8], verify: bool, work: &mut [u8]) -> Stepped
         ensures { λ r. ⌜ (r ≡ startProgram self address (now («data» .entry)) verify (now (work .entry)) .out) × (now (work .exit) ≡ startProgram self address (now («data» .entry)) verify (now (work .entry)) .room) ⌝ }
     {
-        match begin_program(self, address, data.len() as u64, verify, work.len() as u64) {
-            Start::Stays(x) => x,
-            Start::Begins(at, s) => {
-                room::lay(work, at, data);
-                s.tell()
-            }
-        }
+        let p = self.phase;
+        let settings = self.settings;
+        let first = begin_program(
+            ends::is_ended(p),
+            settings,
+            types_of(self),
+            address,
+            data.len() as u64,
+            verify,
+            work.len() as u64,
+        );
+        lay_first(first, data, work);
+        started(self, first)
     }
 
     pub fn program_data(self, address: u32, data: &[u8], work: &mut [u8]) -> Stepped
         ensures { λ r. ⌜ (r ≡ startProgramData self address (now («data» .entry)) (now (work .entry)) .out) × (now (work .exit) ≡ startProgramData self address (now («data» .entry)) (now (work .entry)) .room) ⌝ }
     {
-        match begin_data(self, address, data.len() as u64, work.len() as u64) {
-            Start::Stays(x) => x,
-            Start::Begins(at, s) => {
-                room::lay(work, at, data);
-                s.tell()
-            }
-        }
+        let p = self.phase;
+        let settings = self.settings;
+        let first = begin_data(
+            ends::is_ended(p),
+            settings,
+            address,
+            data.len() as u64,
+            work.len() as u64,
+        );
+        lay_first(first, data, work);
+        started(self, first)
     }
 
     pub fn reset(self) -> Stepped
         ensures { λ r. ⌜ r ≡ startReset self ⌝ }
     {
-        let p = self.params;
-        let enable = Phase::Resetting {
-            command: ResetCommand::Enable,
-        };
-        let old = Phase::Resetting {
-            command: ResetCommand::F0,
-        };
-        if by_66(self) {
-            unless_runs(self, begin(self, enable))
-        } else if p.reset_inst_f0 {
-            unless_runs(self, begin(self, old))
-        } else {
-            unless_runs(self, refuse(self, Answer::NoResetInstruction))
-        }
+        unless_runs(self, started(self, begin_reset(self)))
     }
 
     pub fn read_jedec_id(self) -> Stepped

@@ -9,7 +9,8 @@ use Rattle.flash.specs.declared.Session.{Session}
 use Rattle.flash.specs.declared.Event.{Event}
 use Rattle.flash.specs.declared.Event.the-variants.{Send, Answered}
 use Rattle.flash.specs.declared.Stepped.{Stepped}
-use Rattle.flash.specs.Steps.{Taken, isEnded}
+use Rattle.phases.specs.Moves.{isEnded}
+use Rattle.flash.specs.Steps.{Taken}
 use Rattle.flash.specs.Starts.{fresh}
 use Rattle.packed.specs.Numbers.{sameList}
 use Rattle.packed.specs.Layout.{bytesOf, sessionIn, putOver}

@@ -8,12 +8,12 @@ use Rattle.commands.specs.declared.Answer.the-variants.{Done, DoneBool, DoneId,
 use Rattle.commands.specs.Answers.{numberOf}
 use Rattle.commands.specs.Wire.{highFirst}
 use Rattle.room.specs.Room.{laid}
-use Rattle.flash.specs.declared.Transaction.{Transaction}
+use Rattle.phases.specs.declared.Transaction.{Transaction}
 use Rattle.flash.specs.declared.Event.{Event}
 use Rattle.flash.specs.declared.Event.the-variants.{Send, Answered}
 use Rattle.flash.specs.declared.Session.{Session}
 use Rattle.flash.specs.Waits.{flagged}
-use Rattle.flash.specs.Steps.{isEnded}
+use Rattle.phases.specs.Moves.{isEnded}
 use Rattle.flash_c.specs.declared.records.EventWords.{EventWords}
 use Rattle.flash_c.specs.declared.records.SettingsRecord.{SettingsRecord}
 

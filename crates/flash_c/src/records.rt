@@ -1,14 +1,14 @@
 // The records that C reads: numbers of 64 bits, one after another, the lowest byte first.
 ghost use mathlib.Core.Path.{_≡_};
 ghost use mathlib.Core.Bool.{not};
-ghost use Rattle.flash.specs.Steps.{isEnded};
+ghost use Rattle.phases.specs.Moves.{isEnded};
 ghost use Rattle.room.specs.Room.{laid};
 ghost use Rattle.flash_c.specs.Records.{bit, le8, addressIn, headOf, numberA, numberB, sentWords, answerWords, eventWords, wordsOver, eventOver, settingsHead, settingsWords, settingsOver};
 use commands::Answer;
 use flash::Event;
-use flash::Phase;
 use flash::Session;
-use flash::Transaction;
+use phases::Phase;
+use phases::Transaction;
 
 // The eight numbers of an event record.
 pub struct EventWords {

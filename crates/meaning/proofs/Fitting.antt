@@ -24,27 +24,29 @@ use Rattle.commands.specs.Script.{over}
 use Rattle.commands.specs.Transactions.{ready}
 use Rattle.commands.specs.Commands.{blank, idAt}
 use Rattle.room.specs.Room.{laid}
-use Rattle.flash.specs.declared.Job.{Job}
-use Rattle.flash.specs.declared.Mismatch.{Mismatch}
-use Rattle.flash.specs.declared.ReadCommand.{ReadCommand}
-use Rattle.flash.specs.declared.ReadCommand.the-variants as Reads
-use Rattle.flash.specs.declared.EraseCommand.{EraseCommand}
-use Rattle.flash.specs.declared.EraseCommand.the-variants as Erases
-use Rattle.flash.specs.declared.WriteCommand.{WriteCommand}
-use Rattle.flash.specs.declared.WriteCommand.the-variants as Writes
-use Rattle.flash.specs.declared.PollCommand.{PollCommand}
-use Rattle.flash.specs.declared.PollCommand.the-variants as Polls
-use Rattle.flash.specs.declared.VerifyCommand.{VerifyCommand}
-use Rattle.flash.specs.declared.VerifyCommand.the-variants as Verifies
-use Rattle.flash.specs.declared.ResetCommand.{ResetCommand}
-use Rattle.flash.specs.declared.ResetCommand.the-variants as Resets
-use Rattle.flash.specs.declared.Command.{Command}
-use Rattle.flash.specs.declared.Command.the-variants as Ends
-use Rattle.flash.specs.declared.Phase.{Phase}
-use Rattle.flash.specs.declared.Phase.the-variants.{Reading, Erasing, Writing, Polling, Verifying, Resetting, Ended}
+use Rattle.phases.specs.declared.Job.{Job}
+use Rattle.phases.specs.declared.Mismatch.{Mismatch}
+use Rattle.phases.specs.declared.ReadCommand.{ReadCommand}
+use Rattle.phases.specs.declared.ReadCommand.the-variants as Reads
+use Rattle.phases.specs.declared.EraseCommand.{EraseCommand}
+use Rattle.phases.specs.declared.EraseCommand.the-variants as Erases
+use Rattle.phases.specs.declared.WriteCommand.{WriteCommand}
+use Rattle.phases.specs.declared.WriteCommand.the-variants as Writes
+use Rattle.phases.specs.declared.PollCommand.{PollCommand}
+use Rattle.phases.specs.declared.PollCommand.the-variants as Polls
+use Rattle.phases.specs.declared.VerifyCommand.{VerifyCommand}
+use Rattle.phases.specs.declared.VerifyCommand.the-variants as Verifies
+use Rattle.phases.specs.declared.ResetCommand.{ResetCommand}
+use Rattle.phases.specs.declared.ResetCommand.the-variants as Resets
+use Rattle.phases.specs.declared.Command.{Command}
+use Rattle.phases.specs.declared.Command.the-variants as Ends
+use Rattle.phases.specs.declared.Phase.{Phase}
+use Rattle.phases.specs.declared.Phase.the-variants.{Reading, Erasing, Writing, Polling, Verifying, Resetting, Ended}
 use Rattle.flash.specs.declared.Session.{Session}
-use Rattle.flash.specs.Waits.{typesOf, entryFor, partLast, flagged, readNeed, eraseNeed, writeNeed, pollNeed, verifyNeed, needOf, told, inPhase}
-use Rattle.flash.specs.Steps.{goes, ends, toAfter, toBefore, withHeader, withTable, readOn, readRoom, eraseEnds, writeEnds, pollEnds, toPolls, lastWritten, nextErase, afterErase, nextWrite, toVerify, afterWrite, afterPolls, stillBusy, pollOn, firstDiffers, judged, verifyOn, resetOn, advanced, roomAfter, isEnded, counted, isFull, Taken, stepOf}
+use Rattle.phases.specs.Waits.{partLast, readNeed, eraseNeed, writeNeed, pollNeed, verifyNeed, needOf}
+use Rattle.flash.specs.Waits.{typesOf, entryFor, flagged, told, inPhase}
+use Rattle.phases.specs.Moves.{toAfter, toBefore, withHeader, readRoom, eraseEnds, writeEnds, pollEnds, toPolls, lastWritten, nextErase, nextWrite, toVerify, afterWrite, stillBusy, firstDiffers, judged, verifyOn, resetOn, roomAfter, isEnded, afterRead}
+use Rattle.flash.specs.Steps.{goes, withTable, readOn, afterErase, afterPolls, pollOn, advanced, counted, isFull, Taken, stepOf}
 use Rattle.meaning.specs.Meaning.{isFailed, bytesIn, Bytes}
 use Rattle.meaning.proofs.Rest.{Ordered, FitRead, FitErase, FitWrite, FitPoll, FitVerify, FitPhase, Fit, StepFits}
 
@@ -115,7 +117,7 @@ header-small r b =
     (λ t. by-cond Small (basic (parameterHeader r 8)) (OfHeader.Header (parameterHeader r 8)) OfHeader.InvalidSFDPHeader (λ u. b .below 11) (λ u. tt))
     (λ t. tt)
 
-headed : (s : Session) (n : ℕ) (h : ReadHeader) → Small h → Within 2056 (withHeader s n h)
+headed : (s : Session) (n : ℕ) (h : ReadHeader) → Small h → Within 2056 (goes s n (withHeader h))
 unfolding withHeader needOf readNeed
 headed s n OfHeader.NoSFDP o = record { fits = tt; most = omega arith }
 headed s n OfHeader.InvalidSFDPHeader o = record { fits = tt; most = omega arith }
@@ -127,7 +129,7 @@ tabled s n OfTable.InvalidSFDPParams = record { fits = tt; most = omega arith }
 tabled s n (OfTable.Params p) = record { fits = tt; most = omega arith }
 
 read-on : (s : Session) (n : ℕ) (c : ReadCommand) (r : List ℕ) → Bytes r → FitRead s c → Within (readNeed c) (readOn s n c r)
-unfolding readOn readNeed needOf eraseNeed
+unfolding readOn afterRead readNeed needOf eraseNeed
 read-on s n (Reads.Read legacy a k) r b o = record { fits = tt; most = omega arith }
 read-on s n Reads.Header r b o = record { fits = b .below 6; most = omega arith }
 read-on s n (Reads.Headers more) r b o = headed s n (readHeader r) (header-small r b)
@@ -135,19 +137,21 @@ read-on s n (Reads.Table minor plen ptp) r b o = tabled s n (readTable minor ple
 read-on s n (Reads.Before J) r b o = within s n (J .top + 1 - J .base) (toAfter J) (to-after s J (J .top + 1 - J .base) (o .0) (o .1) (omega arith))
 read-on s n (Reads.After J) r b o = record { fits = o .0; most = omega arith }
 read-on s n Reads.Id r b o =
-    by-cond (Within 0) (eqb (byteAt r 0) 0x7F) (goes s n (Reading Reads.IdAgain)) (ends s n Ends.Other (idAt 0 r))
-    (λ t. record { fits = tt; most = omega arith })
-    (λ t. record { fits = tt; most = omega arith })
+    within s n 0 (cond (eqb (byteAt r 0) 0x7F) (Reading Reads.IdAgain) (Ended Ends.Other (idAt 0 r)))
+    (by-cond (Ok s 0) (eqb (byteAt r 0) 0x7F) (Reading Reads.IdAgain) (Ended Ends.Other (idAt 0 r))
+    (λ t. record { fit = tt; most = omega arith })
+    (λ t. record { fit = tt; most = omega arith }))
 read-on s n Reads.IdAgain r b o = record { fits = tt; most = omega arith }
 read-on s n Reads.Protected r b o = record { fits = tt; most = omega arith }
 
 -- ---- polls
-polls-on : (s : Session) (n : ℕ) (c : PollCommand) → FitPoll c → Within (pollNeed c) (toPolls s n c)
+polls-on : (s : Session) (n : ℕ) (c : PollCommand) → FitPoll c → Within (pollNeed c) (goes s n (toPolls (s .settings .«poll_limit») c))
 unfolding toPolls needOf
 polls-on s n c o =
-    by-cond (Within (pollNeed c)) (eqb (s .settings .«poll_limit») 0) (ends s n (pollEnds c) Busy) (goes s n (Polling c (s .settings .«poll_limit» - 1)))
-    (λ t. record { fits = tt; most = omega arith })
-    (λ t. record { fits = o; most = omega arith })
+    within s n (pollNeed c) (toPolls (s .settings .«poll_limit») c)
+    (by-cond (Ok s (pollNeed c)) (eqb (s .settings .«poll_limit») 0) (Ended (pollEnds c) Busy) (Polling c (s .settings .«poll_limit» - 1))
+    (λ t. record { fit = tt; most = omega arith })
+    (λ t. record { fit = o; most = omega arith }))
 
 last-written : (J : Job) (room : List ℕ) → Ordered J → J .base + lastWritten J room ≤ J .top
 unfolding lastWritten
@@ -179,7 +183,7 @@ to-verify s J to o h =
     (λ t. record { fit = (o, h); most = omega arith })
     (λ t. record { fit = tt; most = omega arith })
 
-after-write : (s : Session) (c : WriteCommand) → FitWrite c → Ok s (writeNeed c) (afterWrite s c)
+after-write : (s : Session) (c : WriteCommand) → FitWrite c → Ok s (writeNeed c) (afterWrite (pageOf (s .settings)) c)
 unfolding afterWrite nextWrite writeNeed needOf
 after-write s (Writes.Program J to off) o =
     let stop = partLast (pageOf (s .settings)) (J .base) off to in
@@ -230,11 +234,11 @@ reset-on s Resets.Enable = record { fit = tt; most = omega arith }
 reset-on s Resets.Reset = ended s 0 Ends.Other Done
 reset-on s Resets.F0 = ended s 0 Ends.Other Done
 
-polls-erase : (s : Session) (n : ℕ) (c : EraseCommand) → FitErase c → Within (eraseNeed c) (toPolls s n (Polls.Erase c))
+polls-erase : (s : Session) (n : ℕ) (c : EraseCommand) → FitErase c → Within (eraseNeed c) (goes s n (toPolls (s .settings .«poll_limit») (Polls.Erase c)))
 unfolding pollNeed
 polls-erase s n c o = polls-on s n (Polls.Erase c) o
 
-polls-write : (s : Session) (n : ℕ) (c : WriteCommand) → FitWrite c → Within (writeNeed c) (toPolls s n (Polls.Write c))
+polls-write : (s : Session) (n : ℕ) (c : WriteCommand) → FitWrite c → Within (writeNeed c) (goes s n (toPolls (s .settings .«poll_limit») (Polls.Write c)))
 unfolding pollNeed
 polls-write s n c o = polls-on s n (Polls.Write c) o
 

@@ -3,36 +3,30 @@ use mathlib.Core.Path.{_≡_, refl, sym, ap, _∙_}
 use mathlib.Core.Bool.{Bool, true, false, cond}
 use mathlib.Core.List.{List, [], _∷_}
 use mathlib.Core.Option.{Option, none}
-use Prim.Native.Nat.{ℕ, _+_, _-_, _^_, _≤_, _<_}
+use Prim.Native.Nat.{ℕ, _+_, _^_, _≤_, _<_}
 use native.Mathlib.Omega.{arith}
-use lib.Dec.{eqb}
 use lib.ListN.{length}
-use Rattle.dwords.specs.Dwords.{byteAt}
-use Rattle.sfdp.specs.Jesd216.{readHeader, readTable}
-use Rattle.sfdp.specs.declared.ReadHeader.{ReadHeader}
-use Rattle.sfdp.specs.declared.ReadHeader.the-variants as OfHeader
+use Rattle.sfdp.specs.Jesd216.{readTable}
 use Rattle.sfdp.specs.declared.ReadParams.{ReadParams}
 use Rattle.sfdp.specs.declared.ReadParams.the-variants as OfTable
 use Rattle.erase_plan.specs.Good.{Each}
-use Rattle.erase_plan.proofs.Lists.{by-cond, no-true, no-false}
+use Rattle.erase_plan.proofs.Lists.{no-true, no-false}
 use Rattle.commands.specs.declared.Answer.{Answer}
-use Rattle.commands.specs.declared.Answer.the-variants.{Busy, Access}
+use Rattle.commands.specs.declared.Answer.the-variants.{Access}
 use Rattle.commands.specs.Script.{Sent}
 use Rattle.commands.specs.Host.{Reply, Outcome, Tree, play}
-use Rattle.commands.specs.Commands.{idAt}
-use Rattle.flash.specs.declared.ReadCommand.{ReadCommand}
-use Rattle.flash.specs.declared.ReadCommand.the-variants as Reads
-use Rattle.flash.specs.declared.PollCommand.{PollCommand}
-use Rattle.flash.specs.declared.PollCommand.the-variants as Polls
-use Rattle.flash.specs.declared.Command.the-variants as Ends
-use Rattle.flash.specs.declared.Phase.{Phase}
-use Rattle.flash.specs.declared.Phase.the-variants.{Reading, Erasing, Writing, Polling, Verifying, Resetting, Ended}
+use Rattle.phases.specs.declared.ReadCommand.{ReadCommand}
+use Rattle.phases.specs.declared.ReadCommand.the-variants as Reads
+use Rattle.phases.specs.declared.Phase.{Phase}
+use Rattle.phases.specs.declared.Phase.the-variants.{Reading, Erasing, Writing, Polling, Verifying, Resetting, Ended}
 use Rattle.flash.specs.declared.Session.{Session}
-use Rattle.flash.specs.declared.Transaction.{Transaction}
+use Rattle.phases.specs.declared.Transaction.{Transaction}
 use Rattle.flash.specs.declared.Event.the-variants.{Send, Answered}
 use Rattle.flash.specs.declared.Stepped.{Stepped}
-use Rattle.flash.specs.Waits.{waitsOn, needOf, eventOf, told}
-use Rattle.flash.specs.Steps.{goes, ends, withHeader, withTable, readOn, pollEnds, toPolls, endsAs, advanced, roomAfter, isEnded, counted, isFull, Taken}
+use Rattle.phases.specs.Waits.{needOf}
+use Rattle.flash.specs.Waits.{waitsOn, eventOf, told}
+use Rattle.phases.specs.Moves.{endsAs, roomAfter, isEnded}
+use Rattle.flash.specs.Steps.{ends, withTable, readOn, advanced, counted, isFull, Taken}
 use Rattle.meaning.specs.Meaning.{sentOf, isFailed, bytesIn, takes, Bytes, follow}
 use Rattle.meaning.proofs.Rest.{seen, Fit, FitPhase, StepMeans}
 use Rattle.meaning.proofs.Stepping.{seen-told, counted-is, step-full, step-short, Means}
@@ -55,12 +49,6 @@ pub step-means : StepMeans
 step-means s room o e h b = phase-means (s .phase) s (s .polls) room o e h b
 
 -- ---- polls: the next session has those that were counted
-headed-polls : (s : Session) (n : ℕ) (h : ReadHeader) → withHeader s n h .polls ≡ n
-unfolding withHeader
-headed-polls s n OfHeader.NoSFDP = refl
-headed-polls s n OfHeader.InvalidSFDPHeader = refl
-headed-polls s n (OfHeader.Header h) = refl
-
 tabled-polls : (s : Session) (n : ℕ) (t : ReadParams) → withTable s n t .polls ≡ n
 unfolding withTable
 tabled-polls s n OfTable.InvalidSFDPParams = refl
@@ -70,27 +58,20 @@ read-polls : (s : Session) (n : ℕ) (c : ReadCommand) (r : List ℕ) → readOn
 unfolding readOn
 read-polls s n (Reads.Read legacy a k) r = refl
 read-polls s n Reads.Header r = refl
-read-polls s n (Reads.Headers more) r = headed-polls s n (readHeader r)
+read-polls s n (Reads.Headers more) r = refl
 read-polls s n (Reads.Table minor plen ptp) r = tabled-polls s n (readTable minor plen r)
 read-polls s n (Reads.Before J) r = refl
 read-polls s n (Reads.After J) r = refl
-read-polls s n Reads.Id r =
-    by-cond (λ (x : Session). x .polls ≡ n) (eqb (byteAt r 0) 0x7F) (goes s n (Reading Reads.IdAgain)) (ends s n Ends.Other (idAt 0 r)) (λ t. refl) (λ t. refl)
+read-polls s n Reads.Id r = refl
 read-polls s n Reads.IdAgain r = refl
 read-polls s n Reads.Protected r = refl
-
-to-polls : (s : Session) (n : ℕ) (c : PollCommand) → toPolls s n c .polls ≡ n
-unfolding toPolls
-to-polls s n c =
-    by-cond (λ (x : Session). x .polls ≡ n) (eqb (s .settings .«poll_limit») 0) (ends s n (pollEnds c) Busy) (goes s n (Polling c (s .settings .«poll_limit» - 1)))
-    (λ t. refl) (λ t. refl)
 
 next-polls : (p : Phase) (s : Session) (n : ℕ) (r room : List ℕ) → isEnded p ≡ false → advanced s n p r room .polls ≡ n
 unfolding advanced isEnded
 next-polls (Reading c) s n r room e = read-polls s n c r
-next-polls (Erasing c true) s n r room e = to-polls s n (Polls.Erase c)
+next-polls (Erasing c true) s n r room e = refl
 next-polls (Erasing c false) s n r room e = refl
-next-polls (Writing c true) s n r room e = to-polls s n (Polls.Write c)
+next-polls (Writing c true) s n r room e = refl
 next-polls (Writing c false) s n r room e = refl
 next-polls (Polling c left) s n r room e = refl
 next-polls (Verifying c) s n r room e = refl

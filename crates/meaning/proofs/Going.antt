@@ -17,19 +17,21 @@ use Rattle.commands.specs.declared.Answer.{Answer}
 use Rattle.commands.specs.declared.Answer.the-variants.{Done}
 use Rattle.commands.specs.Script.{Kept, done, Cmd, after, give, when, each}
 use Rattle.commands.specs.Commands.{typesOf, planOf, eraseOne, fetch, verify, blank, written, writing, erasing, readAfter, readBefore, writeData}
-use Rattle.flash.specs.declared.Job.{Job}
-use Rattle.flash.specs.declared.ReadCommand.the-variants as Reads
-use Rattle.flash.specs.declared.EraseCommand.{EraseCommand}
-use Rattle.flash.specs.declared.EraseCommand.the-variants as Erases
-use Rattle.flash.specs.declared.WriteCommand.{WriteCommand}
-use Rattle.flash.specs.declared.WriteCommand.the-variants as Writes
-use Rattle.flash.specs.declared.VerifyCommand.the-variants as Verifies
-use Rattle.flash.specs.declared.Command.the-variants as Ends
-use Rattle.flash.specs.declared.Phase.{Phase}
-use Rattle.flash.specs.declared.Phase.the-variants.{Reading, Erasing, Writing, Verifying, Ended}
+use Rattle.phases.specs.declared.Job.{Job}
+use Rattle.phases.specs.declared.ReadCommand.the-variants as Reads
+use Rattle.phases.specs.declared.EraseCommand.{EraseCommand}
+use Rattle.phases.specs.declared.EraseCommand.the-variants as Erases
+use Rattle.phases.specs.declared.WriteCommand.{WriteCommand}
+use Rattle.phases.specs.declared.WriteCommand.the-variants as Writes
+use Rattle.phases.specs.declared.VerifyCommand.the-variants as Verifies
+use Rattle.phases.specs.declared.Command.the-variants as Ends
+use Rattle.phases.specs.declared.Phase.{Phase}
+use Rattle.phases.specs.declared.Phase.the-variants.{Reading, Erasing, Writing, Verifying, Ended}
 use Rattle.flash.specs.declared.Session.{Session}
-use Rattle.flash.specs.Waits.{entryFor, partLast}
-use Rattle.flash.specs.Steps.{toAfter, toBefore, lastWritten, nextErase, afterErase, nextWrite, toVerify, afterWrite}
+use Rattle.phases.specs.Waits.{partLast}
+use Rattle.flash.specs.Waits.{entryFor}
+use Rattle.phases.specs.Moves.{toAfter, toBefore, lastWritten, nextErase, nextWrite, toVerify, afterWrite}
+use Rattle.flash.specs.Steps.{afterErase}
 use Rattle.meaning.specs.Meaning.{keptOf}
 use Rattle.meaning.proofs.Rest.{aimOf, readsOn, eraseSent, eraseThen, pastEntry, partAt, writeSent, writeThen, fromStart, verifiesOn, rest, Ordered, FitErase, FitWrite}
 use Rattle.meaning.proofs.Unroll.{go-entries, no-entries, go-parts, no-parts, page-some, part-past}
@@ -135,7 +137,7 @@ data-done : (w : Kept) → done w Done ≡ rest (Ended Ends.Other Done) w
 unfolding rest
 data-done w = refl
 
-pub write-next : (s : Session) (c : WriteCommand) (room : List ℕ) → FitWrite c → writeThen c (keptOf s room) ≡ rest (afterWrite s c) (keptOf s room)
+pub write-next : (s : Session) (c : WriteCommand) (room : List ℕ) → FitWrite c → writeThen c (keptOf s room) ≡ rest (afterWrite (pageOf (s .settings)) c) (keptOf s room)
 unfolding writeThen afterWrite nextWrite
 write-next s (Writes.Program J to off) room o =
     let w = keptOf s room in

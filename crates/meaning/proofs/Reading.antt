@@ -18,13 +18,15 @@ use Rattle.commands.specs.Script.{done, after, give, ask, over}
 use Rattle.commands.specs.Host.{tree}
 use Rattle.commands.specs.Transactions.{plain, at, fastRead, readData}
 use Rattle.commands.specs.Commands.{withHeader, withTable, idAt, firstId}
-use Rattle.flash.specs.declared.ReadCommand.{ReadCommand}
-use Rattle.flash.specs.declared.ReadCommand.the-variants as Reads
-use Rattle.flash.specs.declared.Command.the-variants as Ends
-use Rattle.flash.specs.declared.Phase.the-variants.{Reading}
+use Rattle.phases.specs.declared.ReadCommand.{ReadCommand}
+use Rattle.phases.specs.declared.ReadCommand.the-variants as Reads
+use Rattle.phases.specs.declared.Command.the-variants as Ends
+use Rattle.phases.specs.declared.Phase.the-variants.{Reading, Ended}
 use Rattle.flash.specs.declared.Session.{Session}
-use Rattle.flash.specs.Waits.{addressed, readTx, waitsOn, readNeed, needOf, inPhase}
-use Rattle.flash.specs.Steps.{goes, ends, withHeader as headed, withTable as tabled, readOn, readRoom, advanced, roomAfter, isEnded}
+use Rattle.phases.specs.Waits.{addressed, readTx, readNeed, needOf}
+use Rattle.flash.specs.Waits.{waitsOn, inPhase}
+use Rattle.phases.specs.Moves.{withHeader as headed, readRoom, roomAfter, isEnded, afterRead}
+use Rattle.flash.specs.Steps.{goes, withTable as tabled, readOn, advanced}
 use Rattle.meaning.specs.Meaning.{keptOf, sentOf}
 use Rattle.meaning.proofs.Rest.{readsOn, rest, meaning, FitRead}
 use Rattle.meaning.proofs.Stepping.{laid-over, sent-bare, sent-addressed, sim-by, Means}
@@ -41,7 +43,7 @@ either-reply true s a k = refl
 either-reply false s a k = refl
 
 -- ---- what a header, a table or an ID leads to
-headed-means : (s : Session) (m : ℕ) (room : List ℕ) (h : ReadHeader) → tree m (withHeader h (keptOf s room)) ≡ meaning (headed s m h) room
+headed-means : (s : Session) (m : ℕ) (room : List ℕ) (h : ReadHeader) → tree m (withHeader h (keptOf s room)) ≡ meaning (goes s m (headed h)) room
 unfolding headed meaning rest readsOn tree
 headed-means s m room OfHeader.NoSFDP = refl
 headed-means s m room OfHeader.InvalidSFDPHeader = refl
@@ -54,14 +56,14 @@ tabled-means s m room (OfTable.Params p) = refl
 
 again-means : (s : Session) (m : ℕ) (room : List ℕ) (r : List ℕ) (t : Bool)
     → tree m (cond t (after (ask (plain 0x9F 16) (keptOf s room)) (λ r′. give (firstId 13 1 r′))) (done (keptOf s room) (idAt 0 r)))
-    ≡ meaning (cond t (goes s m (Reading Reads.IdAgain)) (ends s m Ends.Other (idAt 0 r))) room
+    ≡ meaning (goes s m (cond t (Reading Reads.IdAgain) (Ended Ends.Other (idAt 0 r)))) room
 unfolding meaning rest readsOn after
 again-means s m room r true = refl
 again-means s m room r false = refl
 
 -- ---- the step
 pub reading : (c : ReadCommand) (s : Session) (n : ℕ) (room : List ℕ) → FitRead s c → readNeed c ≤ length room → n + 1 < 2 ^ 64 → Means s (Reading c) n room
-unfolding meaning rest readsOn after needOf readNeed isEnded waitsOn readTx advanced readOn roomAfter readRoom
+unfolding meaning rest readsOn after needOf readNeed isEnded waitsOn readTx advanced readOn afterRead roomAfter readRoom
 reading (Reads.Read legacy a k) s n room o h b =
     sim-by (inPhase s (Reading (Reads.Read legacy a k)) n) room refl h _ _ b (either-sent legacy (s .settings) a k room)
     (λ bs l. rw (laid-over 0 bs room (omega (arith, l, either-reply legacy (s .settings) a k))))

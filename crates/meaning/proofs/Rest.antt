@@ -17,26 +17,27 @@ use Rattle.commands.specs.Script.{Sent, Kept, done, Cmd, after, give, fail, ask
 use Rattle.commands.specs.Host.{Reply, Tree, ends as over, asks, tree}
 use Rattle.commands.specs.Transactions.{plain, at, fastRead, readData, status1, eraseBlock, pageProgram, byFlag, statusPoll, ready, polls, operation, Part, toPageEnd, bytesOf}
 use Rattle.commands.specs.Commands.{Job as Aim, typesOf, planOf, eraseOne, fetchSFDP, withHeader, withTable, verify, fetch, writing, erasing, readAfter, writeData, idAt, firstId, erase, program}
-use Rattle.flash.specs.declared.Job.{Job}
-use Rattle.flash.specs.declared.ReadCommand.{ReadCommand}
-use Rattle.flash.specs.declared.ReadCommand.the-variants as Reads
-use Rattle.flash.specs.declared.EraseCommand.{EraseCommand}
-use Rattle.flash.specs.declared.EraseCommand.the-variants as Erases
-use Rattle.flash.specs.declared.WriteCommand.{WriteCommand}
-use Rattle.flash.specs.declared.WriteCommand.the-variants as Writes
-use Rattle.flash.specs.declared.PollCommand.{PollCommand}
-use Rattle.flash.specs.declared.PollCommand.the-variants as Polls
-use Rattle.flash.specs.declared.VerifyCommand.{VerifyCommand}
-use Rattle.flash.specs.declared.VerifyCommand.the-variants as Verifies
-use Rattle.flash.specs.declared.ResetCommand.{ResetCommand}
-use Rattle.flash.specs.declared.ResetCommand.the-variants as Resets
-use Rattle.flash.specs.declared.Phase.{Phase}
-use Rattle.flash.specs.declared.Phase.the-variants.{Reading, Erasing, Writing, Polling, Verifying, Resetting, Ended}
+use Rattle.phases.specs.declared.Job.{Job}
+use Rattle.phases.specs.declared.ReadCommand.{ReadCommand}
+use Rattle.phases.specs.declared.ReadCommand.the-variants as Reads
+use Rattle.phases.specs.declared.EraseCommand.{EraseCommand}
+use Rattle.phases.specs.declared.EraseCommand.the-variants as Erases
+use Rattle.phases.specs.declared.WriteCommand.{WriteCommand}
+use Rattle.phases.specs.declared.WriteCommand.the-variants as Writes
+use Rattle.phases.specs.declared.PollCommand.{PollCommand}
+use Rattle.phases.specs.declared.PollCommand.the-variants as Polls
+use Rattle.phases.specs.declared.VerifyCommand.{VerifyCommand}
+use Rattle.phases.specs.declared.VerifyCommand.the-variants as Verifies
+use Rattle.phases.specs.declared.ResetCommand.{ResetCommand}
+use Rattle.phases.specs.declared.ResetCommand.the-variants as Resets
+use Rattle.phases.specs.declared.Phase.{Phase}
+use Rattle.phases.specs.declared.Phase.the-variants.{Reading, Erasing, Writing, Polling, Verifying, Resetting, Ended}
 use Rattle.flash.specs.declared.Session.{Session}
 use Rattle.flash.specs.declared.Event.the-variants.{Send, Answered}
 use Rattle.flash.specs.declared.Stepped.{Stepped}
-use Rattle.flash.specs.Waits.{typesOf as typesFor, waitsOn, needOf}
-use Rattle.flash.specs.Steps.{isEnded}
+use Rattle.phases.specs.Waits.{needOf}
+use Rattle.flash.specs.Waits.{typesOf as typesFor, waitsOn}
+use Rattle.phases.specs.Moves.{isEnded}
 use Rattle.meaning.specs.Meaning.{keptOf, sentOf, bytesIn, takes, Bytes}
 
 -- a job's ends, one past its last addresses

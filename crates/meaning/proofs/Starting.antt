@@ -23,22 +23,22 @@ use Rattle.commands.specs.Host.{tree}
 use Rattle.commands.specs.Transactions.{plain}
 use Rattle.commands.specs.Commands.{badRange, inRange as ranges, roomFor as rooms, haveTypes as hasTypes, planOf, eraseOne, spanFits as spans, jobOf, readBefore, read, legacyRead, readParams, erase, eraseSectors, program, programData, reset, readJedecId, isBusy, isProtected}
 use Rattle.room.specs.Room.{laid}
-use Rattle.flash.specs.declared.Job.{Job}
-use Rattle.flash.specs.declared.ReadCommand.the-variants as Reads
-use Rattle.flash.specs.declared.EraseCommand.the-variants as Erases
-use Rattle.flash.specs.declared.WriteCommand.the-variants as Writes
-use Rattle.flash.specs.declared.PollCommand.the-variants as Polls
-use Rattle.flash.specs.declared.ResetCommand.the-variants as Resets
-use Rattle.flash.specs.declared.Command.the-variants as Ends
-use Rattle.flash.specs.declared.Phase.{Phase}
-use Rattle.flash.specs.declared.Phase.the-variants.{Reading, Erasing, Writing, Polling, Verifying, Resetting, Ended}
+use Rattle.phases.specs.declared.Job.{Job}
+use Rattle.phases.specs.declared.ReadCommand.the-variants as Reads
+use Rattle.phases.specs.declared.EraseCommand.the-variants as Erases
+use Rattle.phases.specs.declared.WriteCommand.the-variants as Writes
+use Rattle.phases.specs.declared.PollCommand.the-variants as Polls
+use Rattle.phases.specs.declared.ResetCommand.the-variants as Resets
+use Rattle.phases.specs.declared.Command.the-variants as Ends
+use Rattle.phases.specs.declared.Phase.{Phase}
+use Rattle.phases.specs.declared.Phase.the-variants.{Reading, Erasing, Writing, Polling, Verifying, Resetting, Ended}
 use Rattle.flash.specs.declared.Session.{Session}
 use Rattle.flash.specs.declared.Stepped.{Stepped}
-use Rattle.flash.specs.Waits.{typesOf, readNeed, eraseNeed, writeNeed, pollNeed, needOf, told}
-use Rattle.flash.specs.Steps.{goes, ends, toBefore, isEnded}
-use Rattle.flash.specs.Starts.{refused, starts, unlessRuns, inRange, haveTypes, roomFor, startRead, startReadParams, startErase, spanFits, startEraseSectors, startReset, startReadJedecId, startIsBusy, startIsProtected, startOut, startRoom, checked, jobFor, invalid, beginProgram, startProgram, beginData, startProgramData}
-use Rattle.flash.specs.declared.Start.{Start}
-use Rattle.flash.specs.declared.Start.the-variants.{Stays as stays, Begins as begins}
+use Rattle.phases.specs.Waits.{readNeed, eraseNeed, writeNeed, pollNeed, needOf}
+use Rattle.flash.specs.Waits.{typesOf, told}
+use Rattle.phases.specs.Moves.{toBefore, isEnded}
+use Rattle.flash.specs.Steps.{goes, ends}
+use Rattle.flash.specs.Starts.{refused, starts, unlessRuns, inRange, haveTypes, roomFor, startRead, startReadParams, startErase, spanFits, startEraseSectors, startReset, startReadJedecId, startIsBusy, startIsProtected, startOut, startRoom, checked, jobFor, invalid, beginProgram, startProgram, beginData, startProgramData, Start, stays, begins}
 use Rattle.meaning.specs.Meaning.{keptOf, Idle}
 use Rattle.meaning.proofs.Rest.{aimOf, readsOn, eraseSent, eraseThen, fromStart, pollsOn, resetsOn, rest, meaning, seen, Ordered, FitPhase, Fit}
 use Rattle.meaning.proofs.Unroll.{types-present}

@@ -15,11 +15,13 @@ use Rattle.commands.specs.Script.{Sent, Script, send, over}
 use Rattle.commands.specs.Host.{Reply, failed, got, Tree, ends as finished, asks, full, tally, tree}
 use Rattle.commands.specs.Transactions.{plain, at}
 use Rattle.room.specs.Room.{partOf, laid}
-use Rattle.flash.specs.declared.Phase.{Phase}
-use Rattle.flash.specs.declared.Phase.the-variants.{Reading, Erasing, Writing, Polling, Verifying, Resetting, Ended}
+use Rattle.phases.specs.declared.Phase.{Phase}
+use Rattle.phases.specs.declared.Phase.the-variants.{Reading, Erasing, Writing, Polling, Verifying, Resetting, Ended}
 use Rattle.flash.specs.declared.Session.{Session}
-use Rattle.flash.specs.Waits.{bare, addressed, waitsOn, needOf, eventOf, told, inPhase}
-use Rattle.flash.specs.Steps.{ends, endsAs, advanced, roomAfter, isEnded, counted, isFull, Taken, stepOf}
+use Rattle.phases.specs.Waits.{bare, addressed, needOf}
+use Rattle.flash.specs.Waits.{waitsOn, eventOf, told, inPhase}
+use Rattle.phases.specs.Moves.{endsAs, roomAfter, isEnded}
+use Rattle.flash.specs.Steps.{ends, advanced, counted, isFull, Taken, stepOf}
 use Rattle.meaning.specs.Meaning.{keptOf, sentOf, isFailed, bytesIn, takes}
 use Rattle.meaning.proofs.Rest.{rest, meaning, seen}
 

@@ -26,7 +26,7 @@ use Rattle.commands.specs.declared.Answer.{Answer}
 use Rattle.commands.specs.Script.{Sent, Kept, Script, done, stop, send, Cmd, after, each}
 use Rattle.commands.specs.Transactions.{writeEnable, statusPoll, byFlag, ready, polls, operation, eraseBlock, Part, toPageEnd, partsIn, parts, writePart}
 use Rattle.commands.specs.Commands.{typesOf, planOf, eraseOne}
-use Rattle.flash.specs.Waits.{partLast}
+use Rattle.phases.specs.Waits.{partLast}
 use Rattle.meaning.proofs.Rest.{blockSent, pastEntry, partAt, pageSent}
 
 -- ---- scripts

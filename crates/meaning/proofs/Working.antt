@@ -20,24 +20,26 @@ use Rattle.commands.specs.Script.{Kept, done, stop, Cmd, after, give}
 use Rattle.commands.specs.Host.{tree}
 use Rattle.commands.specs.Transactions.{at, fastRead, statusPoll, pageDelay, byFlag, ready, polls, toPageEnd}
 use Rattle.commands.specs.Commands.{mismatch, judge}
-use Rattle.flash.specs.declared.Job.{Job}
-use Rattle.flash.specs.declared.EraseCommand.{EraseCommand}
-use Rattle.flash.specs.declared.EraseCommand.the-variants as Erases
-use Rattle.flash.specs.declared.WriteCommand.{WriteCommand}
-use Rattle.flash.specs.declared.WriteCommand.the-variants as Writes
-use Rattle.flash.specs.declared.PollCommand.{PollCommand}
-use Rattle.flash.specs.declared.PollCommand.the-variants as Polls
-use Rattle.flash.specs.declared.VerifyCommand.{VerifyCommand}
-use Rattle.flash.specs.declared.VerifyCommand.the-variants as Verifies
-use Rattle.flash.specs.declared.ResetCommand.{ResetCommand}
-use Rattle.flash.specs.declared.ResetCommand.the-variants as Resets
-use Rattle.flash.specs.declared.Command.{Command}
-use Rattle.flash.specs.declared.Command.the-variants as Ends
-use Rattle.flash.specs.declared.Phase.{Phase}
-use Rattle.flash.specs.declared.Phase.the-variants.{Erasing, Writing, Polling, Verifying, Resetting, Ended}
+use Rattle.phases.specs.declared.Job.{Job}
+use Rattle.phases.specs.declared.EraseCommand.{EraseCommand}
+use Rattle.phases.specs.declared.EraseCommand.the-variants as Erases
+use Rattle.phases.specs.declared.WriteCommand.{WriteCommand}
+use Rattle.phases.specs.declared.WriteCommand.the-variants as Writes
+use Rattle.phases.specs.declared.PollCommand.{PollCommand}
+use Rattle.phases.specs.declared.PollCommand.the-variants as Polls
+use Rattle.phases.specs.declared.VerifyCommand.{VerifyCommand}
+use Rattle.phases.specs.declared.VerifyCommand.the-variants as Verifies
+use Rattle.phases.specs.declared.ResetCommand.{ResetCommand}
+use Rattle.phases.specs.declared.ResetCommand.the-variants as Resets
+use Rattle.phases.specs.declared.Command.{Command}
+use Rattle.phases.specs.declared.Command.the-variants as Ends
+use Rattle.phases.specs.declared.Phase.{Phase}
+use Rattle.phases.specs.declared.Phase.the-variants.{Erasing, Writing, Polling, Verifying, Resetting, Ended}
 use Rattle.flash.specs.declared.Session.{Session}
-use Rattle.flash.specs.Waits.{entryFor, blockTx, eraseTx, partLast, pagePause, pageTx, writeTx, flagged, pollTx, verifyTx, resetTx, waitsOn, eraseNeed, writeNeed, pollNeed, verifyNeed, needOf, inPhase}
-use Rattle.flash.specs.Steps.{goes, ends, eraseEnds, writeEnds, pollEnds, toPolls, afterErase, afterWrite, afterPolls, stillBusy, pollOn, firstDiffers, judged, verifyOn, resetOn, advanced, roomAfter, isEnded}
+use Rattle.phases.specs.Waits.{blockTx, partLast, pageTx, writeTx, verifyTx, resetTx, eraseNeed, writeNeed, pollNeed, verifyNeed, needOf}
+use Rattle.flash.specs.Waits.{entryFor, eraseTx, pagePause, flagged, pollTx, waitsOn, inPhase}
+use Rattle.phases.specs.Moves.{eraseEnds, writeEnds, toPolls, afterWrite, stillBusy, firstDiffers, judged, verifyOn, resetOn, roomAfter, isEnded}
+use Rattle.flash.specs.Steps.{goes, afterErase, afterPolls, pollOn, advanced}
 use Rattle.meaning.specs.Meaning.{keptOf, sentOf}
 use Rattle.meaning.proofs.Rest.{blockSent, eraseSent, eraseThen, pageSent, writeSent, writeThen, fromStart, pollsOn, verifiesOn, resetsOn, rest, meaning, FitWrite, FitPoll, FitVerify}
 use Rattle.meaning.proofs.Unroll.{page-some, part-past, part-within}
@@ -56,7 +58,7 @@ erase-sent s room Erases.Chip = sent-bare 0xC7 0 room
 erase-sent s room (Erases.Sectors p last) = block-sent s room (entryFor s p last)
 erase-sent s room (Erases.Program J p) = block-sent s room (entryFor s p (J .last))
 
-page-sent : (s : Session) (room : List ℕ) (a to off : ℕ) → a + to < 2 ^ 32 → off ≤ to → to + 1 ≤ length room → sentOf (pageTx s a to off) room ≡ pageSent (keptOf s room) a to off
+page-sent : (s : Session) (room : List ℕ) (a to off : ℕ) → a + to < 2 ^ 32 → off ≤ to → to + 1 ≤ length room → sentOf (pageTx (s .settings) (pagePause s) a to off) room ≡ pageSent (keptOf s room) a to off
 unfolding pageTx pagePause pageDelay
 page-sent s room a to off h k l =
     let page = pageOf (s .settings) in
@@ -66,7 +68,7 @@ page-sent s room a to off h k l =
     let m : (a + off) % 2 ^ 32 ≡ a + off = mod-eq-of-lt (omega arith) in
     rw (e, m, part-fits room off len (omega (arith, part-within page a off (to + 1) (omega arith))))
 
-write-sent : (s : Session) (room : List ℕ) (c : WriteCommand) → FitWrite c → writeNeed c ≤ length room → sentOf (writeTx s c) room ≡ writeSent (keptOf s room) c
+write-sent : (s : Session) (room : List ℕ) (c : WriteCommand) → FitWrite c → writeNeed c ≤ length room → sentOf (writeTx (s .settings) (pagePause s) c) room ≡ writeSent (keptOf s room) c
 unfolding writeTx writeSent writeNeed
 write-sent s room (Writes.Program J to off) o h = page-sent s room (J .base) to off (omega arith) (o .1 .1) (omega arith)
 write-sent s room (Writes.Data a to off) o h = page-sent s room a to off (o .0) (o .1) h
@@ -74,8 +76,8 @@ write-sent s room (Writes.Data a to off) o h = page-sent s room a to off (o .0) 
 -- ---- from an operation to its polls
 polls-begin : (s : Session) (m : ℕ) (room : List ℕ) (c : PollCommand) (k : Cmd Answer) (limit : ℕ)
     → ((l : ℕ) → after (polls (suc l) (keptOf s room)) (λ u. k) ≡ rest (Polling c l) (keptOf s room))
-    → tree m (after (polls limit (keptOf s room)) (λ u. k)) ≡ meaning (cond (eqb limit 0) (ends s m (pollEnds c) Busy) (goes s m (Polling c (limit - 1)))) room
-unfolding polls after meaning rest tree
+    → tree m (after (polls limit (keptOf s room)) (λ u. k)) ≡ meaning (goes s m (toPolls limit c)) room
+unfolding polls after meaning rest tree toPolls
 polls-begin s m room c k zero h = refl
 polls-begin s m room c k (suc l) h =
     let e : suc l - 1 ≡ l = omega arith in
@@ -90,7 +92,7 @@ unfolding rest pollsOn
 write-polls w c l = refl
 
 pub erasing : (c : EraseCommand) (enabled : Bool) (s : Session) (n : ℕ) (room : List ℕ) → eraseNeed c ≤ length room → n + 1 < 2 ^ 64 → Means s (Erasing c enabled) n room
-unfolding meaning rest fromStart after needOf isEnded waitsOn advanced roomAfter toPolls
+unfolding meaning rest fromStart after needOf isEnded waitsOn advanced roomAfter
 erasing c false s n room h b = sim-by (inPhase s (Erasing c false) n) room refl h _ _ b (sent-bare 0x06 0 room) (λ bs l. refl)
 erasing c true s n room h b =
     let s′ = inPhase s (Erasing c true) n in
@@ -98,7 +100,7 @@ erasing c true s n room h b =
     (λ bs l. polls-begin s′ _ room (Polls.Erase c) (eraseThen c) (s .settings .«poll_limit») (erase-polls (keptOf s room) c))
 
 pub writing : (c : WriteCommand) (enabled : Bool) (s : Session) (n : ℕ) (room : List ℕ) → FitWrite c → writeNeed c ≤ length room → n + 1 < 2 ^ 64 → Means s (Writing c enabled) n room
-unfolding meaning rest fromStart after needOf isEnded waitsOn advanced roomAfter toPolls
+unfolding meaning rest fromStart after needOf isEnded waitsOn advanced roomAfter
 writing c false s n room o h b = sim-by (inPhase s (Writing c false) n) room refl h _ _ b (sent-bare 0x06 0 room) (λ bs l. refl)
 writing c true s n room o h b =
     let s′ = inPhase s (Writing c true) n in
@@ -148,7 +150,7 @@ polling (Polls.Write c) left s n room o h b =
     let s′ = inPhase s (Polling (Polls.Write c) left) n in
     let w = keptOf s room in
     sim-by s′ room refl h _ _ b (poll-sent s′ room)
-    (λ bs l. poll-reply _ w (writeThen c) (ready (flagged s′) (byteAt bs 0)) left (afterWrite s′ c) (stillBusy (Polls.Write c) left) (write-next s′ c room o)
+    (λ bs l. poll-reply _ w (writeThen c) (ready (flagged s′) (byteAt bs 0)) left (afterWrite (pageOf (s′ .settings)) c) (stillBusy (Polls.Write c) left) (write-next s′ c room o)
     (polls-left _ w (writeThen c) (writeEnds c) (Polls.Write c) left (write-polls w c)))
 
 -- ---- a script that stops is one that ended

@@ -13,11 +13,12 @@ use Rattle.commands.specs.Transactions.{polls}
 use Rattle.commands.specs.Commands.{read, legacyRead, readParams, erase, eraseSectors, program, programData, reset, readJedecId, isBusy, isProtected}
 use Rattle.room.specs.Room.{partOf}
 use Rattle.flash.specs.declared.Session.{Session}
-use Rattle.flash.specs.declared.Transaction.{Transaction}
+use Rattle.phases.specs.declared.Transaction.{Transaction}
 use Rattle.flash.specs.declared.Event.the-variants.{Send, Answered}
 use Rattle.flash.specs.declared.Stepped.{Stepped}
 use Rattle.erase_plan.specs.Good.{Each}
-use Rattle.flash.specs.Steps.{Taken, isEnded, stepOf}
+use Rattle.phases.specs.Moves.{isEnded}
+use Rattle.flash.specs.Steps.{Taken, stepOf}
 use Rattle.flash.specs.Starts.{startRead, startReadParams, startErase, startEraseSectors, startProgram, startProgramData, startReset, startReadJedecId, startIsBusy, startIsProtected}
 
 -- a session and the lent room as what a script keeps

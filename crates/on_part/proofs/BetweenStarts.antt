@@ -17,23 +17,25 @@ use Rattle.commands.specs.declared.Answer.{Answer}
 use Rattle.commands.specs.declared.Answer.the-variants.{Done, NoResetInstruction, NoEraseInstruction, NoRoom, BadSession}
 use Rattle.commands.specs.Calls.{Call, Read, LegacyRead, ReadParams, Erase, EraseSectors, Program, ProgramData, Reset, ReadJedecId, IsBusy, IsProtected}
 use Rattle.commands.specs.Leaves.{refused, roomNeed}
-use Rattle.flash.specs.declared.Job.{Job}
-use Rattle.flash.specs.declared.ReadCommand.the-variants as Reads
-use Rattle.flash.specs.declared.EraseCommand.the-variants as Erases
-use Rattle.flash.specs.declared.WriteCommand.the-variants as Writes
-use Rattle.flash.specs.declared.PollCommand.the-variants as Polls
-use Rattle.flash.specs.declared.ResetCommand.the-variants as Resets
-use Rattle.flash.specs.declared.Command.the-variants as Ends
-use Rattle.flash.specs.declared.Phase.{Phase}
-use Rattle.flash.specs.declared.Phase.the-variants.{Reading, Erasing, Writing, Polling, Resetting}
+use Rattle.phases.specs.declared.Job.{Job}
+use Rattle.phases.specs.declared.ReadCommand.the-variants as Reads
+use Rattle.phases.specs.declared.EraseCommand.the-variants as Erases
+use Rattle.phases.specs.declared.WriteCommand.the-variants as Writes
+use Rattle.phases.specs.declared.PollCommand.the-variants as Polls
+use Rattle.phases.specs.declared.ResetCommand.the-variants as Resets
+use Rattle.phases.specs.declared.Command.the-variants as Ends
+use Rattle.phases.specs.declared.Phase.{Phase}
+use Rattle.phases.specs.declared.Phase.the-variants.{Reading, Erasing, Writing, Polling, Resetting}
 use Rattle.flash.specs.declared.Session.{Session}
-use Rattle.flash.specs.declared.Transaction.{Transaction}
+use Rattle.phases.specs.declared.Transaction.{Transaction}
 use Rattle.flash.specs.declared.Event.{Event}
 use Rattle.flash.specs.declared.Event.the-variants.{Send, Answered}
 use Rattle.flash.specs.declared.Stepped.{Stepped}
-use Rattle.flash.specs.declared.Start.{Start}
-use Rattle.flash.specs.Waits.{typesOf, spanOf, readNeed, eraseNeed, writeNeed, pollNeed, needOf, eventOf, told}
-use Rattle.flash.specs.Steps.{goes, ends, toAfter, toBefore, isEnded, Taken}
+use Rattle.flash.specs.Starts.{Start}
+use Rattle.flash.specs.Waits.{typesOf, eventOf, told}
+use Rattle.phases.specs.Waits.{spanOf, readNeed, eraseNeed, writeNeed, pollNeed, needOf}
+use Rattle.flash.specs.Steps.{goes, ends, Taken}
+use Rattle.phases.specs.Moves.{toAfter, toBefore, isEnded}
 use Rattle.flash.specs.Starts.{unlessRuns, inRange, haveTypes, roomFor, startRead, startReadParams, startErase, surveyFor, spanFits, startEraseSectors, startReset, startReadJedecId, startIsBusy, startIsProtected, startOut, startRoom, checked, invalid, jobFor, beginProgram, startProgram, beginData, startProgramData}
 use Rattle.meaning.specs.Meaning.{keptOf, Idle}
 use Rattle.meaning.proofs.Unroll.{types-present}

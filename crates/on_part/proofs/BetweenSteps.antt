@@ -20,28 +20,30 @@ use Rattle.erase_plan.proofs.Lists.{by-cond, no-true, no-false}
 use Rattle.commands.specs.declared.Answer.the-variants.{Access, Busy, NoRoom}
 use Rattle.commands.specs.Commands.{idAt}
 use Rattle.commands.specs.Transactions.{ready}
-use Rattle.flash.specs.declared.Job.{Job}
-use Rattle.flash.specs.declared.Mismatch.{Mismatch}
-use Rattle.flash.specs.declared.ReadCommand.{ReadCommand}
-use Rattle.flash.specs.declared.ReadCommand.the-variants as Reads
-use Rattle.flash.specs.declared.EraseCommand.{EraseCommand}
-use Rattle.flash.specs.declared.EraseCommand.the-variants as Erases
-use Rattle.flash.specs.declared.WriteCommand.{WriteCommand}
-use Rattle.flash.specs.declared.WriteCommand.the-variants as Writes
-use Rattle.flash.specs.declared.PollCommand.{PollCommand}
-use Rattle.flash.specs.declared.PollCommand.the-variants as Polls
-use Rattle.flash.specs.declared.VerifyCommand.{VerifyCommand}
-use Rattle.flash.specs.declared.VerifyCommand.the-variants as Verifies
-use Rattle.flash.specs.declared.ResetCommand.{ResetCommand}
-use Rattle.flash.specs.declared.ResetCommand.the-variants as Resets
-use Rattle.flash.specs.declared.Command.the-variants as Ends
-use Rattle.flash.specs.declared.Phase.{Phase}
-use Rattle.flash.specs.declared.Phase.the-variants.{Reading, Erasing, Writing, Polling, Verifying, Resetting, Ended}
+use Rattle.phases.specs.declared.Job.{Job}
+use Rattle.phases.specs.declared.Mismatch.{Mismatch}
+use Rattle.phases.specs.declared.ReadCommand.{ReadCommand}
+use Rattle.phases.specs.declared.ReadCommand.the-variants as Reads
+use Rattle.phases.specs.declared.EraseCommand.{EraseCommand}
+use Rattle.phases.specs.declared.EraseCommand.the-variants as Erases
+use Rattle.phases.specs.declared.WriteCommand.{WriteCommand}
+use Rattle.phases.specs.declared.WriteCommand.the-variants as Writes
+use Rattle.phases.specs.declared.PollCommand.{PollCommand}
+use Rattle.phases.specs.declared.PollCommand.the-variants as Polls
+use Rattle.phases.specs.declared.VerifyCommand.{VerifyCommand}
+use Rattle.phases.specs.declared.VerifyCommand.the-variants as Verifies
+use Rattle.phases.specs.declared.ResetCommand.{ResetCommand}
+use Rattle.phases.specs.declared.ResetCommand.the-variants as Resets
+use Rattle.phases.specs.declared.Command.the-variants as Ends
+use Rattle.phases.specs.declared.Phase.{Phase}
+use Rattle.phases.specs.declared.Phase.the-variants.{Reading, Erasing, Writing, Polling, Verifying, Resetting, Ended}
 use Rattle.flash.specs.declared.Session.{Session}
-use Rattle.flash.specs.declared.Transaction.{Transaction}
+use Rattle.phases.specs.declared.Transaction.{Transaction}
 use Rattle.flash.specs.declared.Event.the-variants.{Send}
-use Rattle.flash.specs.Waits.{entryFor, partLast, flagged, spanOf, readNeed, eraseNeed, writeNeed, pollNeed, verifyNeed, needOf, told}
-use Rattle.flash.specs.Steps.{goes, ends, toAfter, withHeader, withTable, readOn, endsAs, pollEnds, toPolls, nextErase, afterErase, nextWrite, toVerify, afterWrite, afterPolls, stillBusy, pollOn, firstDiffers, judged, verifyOn, resetOn, advanced, roomAfter, isEnded, counted, isFull, Taken, stepOf}
+use Rattle.flash.specs.Waits.{entryFor, flagged, told}
+use Rattle.phases.specs.Waits.{partLast, spanOf, readNeed, eraseNeed, writeNeed, pollNeed, verifyNeed, needOf}
+use Rattle.flash.specs.Steps.{goes, ends, withTable, readOn, afterErase, afterPolls, pollOn, advanced, counted, isFull, Taken, stepOf}
+use Rattle.phases.specs.Moves.{toAfter, withHeader, afterRead, endsAs, pollEnds, toPolls, nextErase, nextWrite, toVerify, afterWrite, stillBusy, firstDiffers, judged, verifyOn, resetOn, roomAfter, isEnded}
 use Rattle.meaning.specs.Meaning.{Idle}
 use Rattle.on_part.specs.Between.{Runs, stays}
 use Rattle.on_part.proofs.Resting.{isAnswer, told-rests}
@@ -58,11 +60,11 @@ after-still : (J : Job) → Still (spanOf J) (toAfter J)
 unfolding toAfter needOf readNeed eraseNeed
 after-still J = by-still (spanOf J) (ltb (J .last) (J .top)) _ _ (λ e. refl) (λ e. refl)
 
-header-still : (s : Session) (n : ℕ) (h : ReadHeader) → Still 2056 (withHeader s n h .phase)
+header-still : (h : ReadHeader) → Still 2056 (withHeader h)
 unfolding withHeader needOf readNeed isEnded
-header-still s n OfHeader.NoSFDP e = no-false e
-header-still s n OfHeader.InvalidSFDPHeader e = no-false e
-header-still s n (OfHeader.Header h) e = refl
+header-still OfHeader.NoSFDP e = no-false e
+header-still OfHeader.InvalidSFDPHeader e = no-false e
+header-still (OfHeader.Header h) e = refl
 
 table-still : (s : Session) (n : ℕ) (t : ReadParams) → Still 2056 (withTable s n t .phase)
 unfolding withTable isEnded
@@ -70,20 +72,19 @@ table-still s n OfTable.InvalidSFDPParams e = no-false e
 table-still s n (OfTable.Params p) e = no-false e
 
 -- the ID is asked for again, or told
-id-still : (s : Session) (n : ℕ) (r : List ℕ) → Still 0 (readOn s n Reads.Id r .phase)
-unfolding readOn needOf readNeed isEnded
-id-still s n r =
-    by-cond (λ (x : Session). Still 0 (x .phase)) (eqb (byteAt r 0) 0x7F) (goes s n (Reading Reads.IdAgain)) (ends s n Ends.Other (idAt 0 r)) (λ t e. refl) (λ t e. no-false e)
+id-still : (r : List ℕ) → Still 0 (afterRead Reads.Id r)
+unfolding afterRead needOf readNeed isEnded
+id-still r = by-still 0 (eqb (byteAt r 0) 0x7F) (Reading Reads.IdAgain) (Ended Ends.Other (idAt 0 r)) (λ e. refl) (λ e. no-false e)
 
 read-still : (s : Session) (n : ℕ) (c : ReadCommand) (r : List ℕ) → Still (readNeed c) (readOn s n c r .phase)
-unfolding readOn needOf readNeed eraseNeed isEnded
+unfolding readOn afterRead needOf readNeed eraseNeed isEnded
 read-still s n (Reads.Read legacy a k) r e = no-false e
 read-still s n Reads.Header r e = refl
-read-still s n (Reads.Headers more) r e = header-still s n (readHeader r) e
+read-still s n (Reads.Headers more) r e = header-still (readHeader r) e
 read-still s n (Reads.Table minor plen ptp) r e = table-still s n (readTable minor plen r) e
 read-still s n (Reads.Before J) r e = after-still J e
 read-still s n (Reads.After J) r e = refl
-read-still s n Reads.Id r e = id-still s n r e
+read-still s n Reads.Id r e = id-still r e
 read-still s n Reads.IdAgain r e = no-false e
 read-still s n Reads.Protected r e = no-false e
 
@@ -103,17 +104,16 @@ verify-still : (J : Job) (to : ℕ) → Still (spanOf J) (toVerify J to)
 unfolding toVerify needOf verifyNeed isEnded
 verify-still J to = by-still (spanOf J) (J .verified) _ _ (λ e. refl) (λ e. no-false e)
 
-written-still : (s : Session) (c : WriteCommand) → Still (writeNeed c) (afterWrite s c)
+written-still : (page : ℕ) (c : WriteCommand) → Still (writeNeed c) (afterWrite page c)
 unfolding afterWrite nextWrite needOf writeNeed isEnded
-written-still s (Writes.Program J to off) =
-    by-still (spanOf J) (ltb (partLast (pageOf (s .settings)) (J .base) off to) to) _ _ (λ e. refl) (verify-still J to)
-written-still s (Writes.Data a to off) = by-still (to + 1) (ltb (partLast (pageOf (s .settings)) a off to) to) _ _ (λ e. refl) (λ e. no-false e)
+written-still page (Writes.Program J to off) = by-still (spanOf J) (ltb (partLast page (J .base) off to) to) _ _ (λ e. refl) (verify-still J to)
+written-still page (Writes.Data a to off) = by-still (to + 1) (ltb (partLast page a off to) to) _ _ (λ e. refl) (λ e. no-false e)
 
 polled-still : (s : Session) (c : PollCommand) (room : List ℕ) → Still (pollNeed c) (afterPolls s c room)
 unfolding afterPolls pollNeed isEnded
 polled-still s Polls.Once room = λ e. no-false e
 polled-still s (Polls.Erase c) room = erased-still s c room
-polled-still s (Polls.Write c) room = written-still s c
+polled-still s (Polls.Write c) room = written-still (pageOf (s .settings)) c
 
 busy-still : (c : PollCommand) (left : ℕ) → Still (pollNeed c) (stillBusy c left)
 unfolding stillBusy needOf pollNeed isEnded
@@ -125,11 +125,9 @@ poll-still : (s : Session) (c : PollCommand) (left : ℕ) (r room : List ℕ) �
 unfolding pollOn
 poll-still s c left r room = by-still (pollNeed c) (ready (flagged s) (byteAt r 0)) _ _ (polled-still s c room) (busy-still c left)
 
-polls-still : (s : Session) (n : ℕ) (c : PollCommand) → Still (pollNeed c) (toPolls s n c .phase)
+polls-still : (limit : ℕ) (c : PollCommand) → Still (pollNeed c) (toPolls limit c)
 unfolding toPolls needOf isEnded
-polls-still s n c =
-    by-cond (λ (x : Session). Still (pollNeed c) (x .phase)) (eqb (s .settings .«poll_limit») 0) (ends s n (pollEnds c) Busy)
-    (goes s n (Polling c (s .settings .«poll_limit» - 1))) (λ t e. no-false e) (λ t e. refl)
+polls-still limit c = by-still (pollNeed c) (eqb limit 0) _ _ (λ e. no-false e) (λ e. refl)
 
 -- ---- after the others
 judged-still : (J : Job) (m : Option Mismatch) → Still (spanOf J) (judged J m)
@@ -148,14 +146,14 @@ reset-still Resets.Enable e = refl
 reset-still Resets.Reset e = no-false e
 reset-still Resets.F0 e = no-false e
 
-enabled-still : (s : Session) (n : ℕ) (b : Bool) (c : PollCommand) (q : Phase) → Still (pollNeed c) q → Still (pollNeed c) (cond b (toPolls s n c) (goes s n q) .phase)
-enabled-still s n b c q g = by-cond (λ (x : Session). Still (pollNeed c) (x .phase)) b (toPolls s n c) (goes s n q) (λ t. polls-still s n c) (λ t. g)
+enabled-still : (limit : ℕ) (b : Bool) (c : PollCommand) (q : Phase) → Still (pollNeed c) q → Still (pollNeed c) (cond b (toPolls limit c) q)
+enabled-still limit b c q g = by-still (pollNeed c) b (toPolls limit c) q (polls-still limit c) g
 
 phase-still : (s : Session) (n : ℕ) (p : Phase) (r room : List ℕ) → isEnded p ≡ false → Still (needOf p) (advanced s n p r room .phase)
 unfolding advanced needOf pollNeed isEnded
 phase-still s n (Reading c) r room h = read-still s n c r
-phase-still s n (Erasing c enabled) r room h = enabled-still s n enabled (Polls.Erase c) (Erasing c true) (λ e. refl)
-phase-still s n (Writing c enabled) r room h = enabled-still s n enabled (Polls.Write c) (Writing c true) (λ e. refl)
+phase-still s n (Erasing c enabled) r room h = enabled-still (s .settings .«poll_limit») enabled (Polls.Erase c) (Erasing c true) (λ e. refl)
+phase-still s n (Writing c enabled) r room h = enabled-still (s .settings .«poll_limit») enabled (Polls.Write c) (Writing c true) (λ e. refl)
 phase-still s n (Polling c left) r room h = poll-still s c left r room
 phase-still s n (Verifying c) r room h = verified-still c r room
 phase-still s n (Resetting c) r room h = reset-still c

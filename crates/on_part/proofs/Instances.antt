@@ -27,8 +27,10 @@ use Rattle.commands.specs.Calls.{Call, ProgramData}
 use Rattle.commands.specs.Bounds.{pages}
 use Rattle.commands.specs.Leaves.{refused}
 use Rattle.room.specs.Room.{laid, partOf}
-use Rattle.flash.specs.Waits.{readTx, entryFor, blockTx, eraseTx, partLast, pagePause, pageTx, writeTx, flagged, pollTx, verifyTx, waitsOn, readNeed, eraseNeed, writeNeed, pollNeed, verifyNeed, needOf, eventOf, told}
-use Rattle.flash.specs.Steps.{toAfter, toBefore, readOn, readRoom, toPolls, lastWritten, nextErase, afterErase, nextWrite, toVerify, afterWrite, afterPolls, stillBusy, pollOn, firstDiffers, judged, verifyOn, advanced, roomAfter, isEnded, counted, isFull, stepOf}
+use Rattle.phases.specs.Waits.{readTx, blockTx, partLast, pageTx, writeTx, verifyTx, readNeed, eraseNeed, writeNeed, pollNeed, verifyNeed, needOf}
+use Rattle.flash.specs.Waits.{entryFor, eraseTx, pagePause, flagged, pollTx, waitsOn, eventOf, told}
+use Rattle.phases.specs.Moves.{toAfter, toBefore, readRoom, toPolls, lastWritten, nextErase, nextWrite, toVerify, afterWrite, stillBusy, firstDiffers, judged, verifyOn, roomAfter, isEnded, afterRead}
+use Rattle.flash.specs.Steps.{readOn, afterErase, afterPolls, pollOn, advanced, counted, isFull, stepOf}
 use Rattle.flash.specs.Starts.{unlessRuns, inRange, haveTypes, roomFor, startRead, startEraseSectors, beginProgram, startProgram, beginData, startProgramData, fresh, setting}
 use Rattle.meaning.specs.Meaning.{keptOf}
 use Rattle.nor_model.specs.Device.{Part, bytesFrom, joined, addressIn, whole, writeEnable, operate, erased, blockErase, onward, andAt, programmed, pageProgram, readMemory, status1, readStatus, unlessBusy, obeyed, respond}
@@ -81,7 +83,7 @@ odd-keeps =
     (record { sound = new-sound; read = λ e. no-true e })
 
 pub odd-premises : Premises odd start oddActs
-unfolding serve respond byteAt ready acceptedRange available ofSettings present kept plan planIn nextPos nextOf entryAt chosen chosenFrom beats cover blockBase blockEnd spanStart spanEnd surveyOf spanCheck byFlag pageOf blank refused bytesFrom joined addressIn whole writeEnable operate erased blockErase onward andAt programmed pageProgram readMemory status1 readStatus unlessBusy obeyed highFirst wire within pages otherCommand laid over partOf readTx entryFor blockTx eraseTx partLast pagePause pageTx writeTx flagged pollTx verifyTx waitsOn readNeed eraseNeed writeNeed pollNeed verifyNeed needOf eventOf told toAfter toBefore readOn readRoom toPolls lastWritten nextErase afterErase nextWrite toVerify afterWrite afterPolls stillBusy pollOn firstDiffers judged verifyOn advanced roomAfter isEnded counted isFull stepOf unlessRuns inRange haveTypes roomFor startRead startEraseSectors beginProgram startProgram beginData startProgramData setting
+unfolding serve respond byteAt ready acceptedRange available ofSettings present kept plan planIn nextPos nextOf entryAt chosen chosenFrom beats cover blockBase blockEnd spanStart spanEnd surveyOf spanCheck byFlag pageOf blank refused bytesFrom joined addressIn whole writeEnable operate erased blockErase onward andAt programmed pageProgram readMemory status1 readStatus unlessBusy obeyed highFirst wire within pages otherCommand laid over partOf readTx entryFor blockTx eraseTx partLast pagePause pageTx writeTx flagged pollTx verifyTx waitsOn readNeed eraseNeed writeNeed pollNeed verifyNeed needOf eventOf told toAfter toBefore readOn afterRead readRoom toPolls lastWritten nextErase afterErase nextWrite toVerify afterWrite afterPolls stillBusy pollOn firstDiffers judged verifyOn advanced roomAfter isEnded counted isFull stepOf unlessRuns inRange haveTypes roomFor startRead startEraseSectors beginProgram startProgram beginData startProgramData setting
 odd-premises = (
   record { fits = inl (record { given = refl; capacity = refl; addressed = refl; page = half; types = (refl, tt); apart = one-apart 0x20 100 refl; poll = λ e. no-true e }); ready = λ past. omega arith; bytes = bytes-data _ tt },
   (
@@ -113,5 +115,5 @@ afterAll p (Setting a ∷ acts) x = afterAll p acts (setIn a x)
 pub odd-run : (length (afterAll odd oddActs start .accepted) ≡ 4)
     × (bytesFrom (afterAll odd oddActs start .state .memory) 246 6 ≡ 255 ∷ 255 ∷ 255 ∷ 255 ∷ 0x0F ∷ 0xF0 ∷ [])
     × (bytesFrom (afterAll odd oddActs start .state .memory) 92 14 ≡ 92 ∷ 93 ∷ 94 ∷ 1 ∷ 2 ∷ 3 ∷ 4 ∷ 5 ∷ 6 ∷ 7 ∷ 8 ∷ 9 ∷ 10 ∷ 105 ∷ [])
-unfolding afterAll serve respond byteAt ready acceptedRange available ofSettings present kept plan planIn nextPos nextOf entryAt chosen chosenFrom beats cover blockBase blockEnd spanStart spanEnd surveyOf spanCheck byFlag pageOf blank refused bytesFrom joined addressIn whole writeEnable operate erased blockErase onward andAt programmed pageProgram readMemory status1 readStatus unlessBusy obeyed highFirst wire within pages laid over partOf readTx entryFor blockTx eraseTx partLast pagePause pageTx writeTx flagged pollTx verifyTx waitsOn readNeed eraseNeed writeNeed pollNeed verifyNeed needOf eventOf told toAfter toBefore readOn readRoom toPolls lastWritten nextErase afterErase nextWrite toVerify afterWrite afterPolls stillBusy pollOn firstDiffers judged verifyOn advanced roomAfter isEnded counted isFull stepOf unlessRuns inRange haveTypes roomFor startRead startEraseSectors beginProgram startProgram beginData startProgramData setting
+unfolding afterAll serve respond byteAt ready acceptedRange available ofSettings present kept plan planIn nextPos nextOf entryAt chosen chosenFrom beats cover blockBase blockEnd spanStart spanEnd surveyOf spanCheck byFlag pageOf blank refused bytesFrom joined addressIn whole writeEnable operate erased blockErase onward andAt programmed pageProgram readMemory status1 readStatus unlessBusy obeyed highFirst wire within pages laid over partOf readTx entryFor blockTx eraseTx partLast pagePause pageTx writeTx flagged pollTx verifyTx waitsOn readNeed eraseNeed writeNeed pollNeed verifyNeed needOf eventOf told toAfter toBefore readOn afterRead readRoom toPolls lastWritten nextErase afterErase nextWrite toVerify afterWrite afterPolls stillBusy pollOn firstDiffers judged verifyOn advanced roomAfter isEnded counted isFull stepOf unlessRuns inRange haveTypes roomFor startRead startEraseSectors beginProgram startProgram beginData startProgramData setting
 odd-run = (refl, refl, refl)

@@ -13,20 +13,20 @@ use Rattle.erase_plan.proofs.Lists.{by-cond, no-true}
 use Rattle.commands.specs.declared.Answer.{Answer}
 use Rattle.commands.specs.declared.Answer.the-variants.{NoResetInstruction, NoEraseInstruction, NoRoom, BadSession}
 use Rattle.commands.specs.Calls.{Call, Read, LegacyRead, ReadParams, Erase, EraseSectors, Program, ProgramData, Reset, ReadJedecId, IsBusy, IsProtected}
-use Rattle.flash.specs.declared.ReadCommand.the-variants as Reads
-use Rattle.flash.specs.declared.EraseCommand.the-variants as Erases
-use Rattle.flash.specs.declared.PollCommand.the-variants as Polls
-use Rattle.flash.specs.declared.ResetCommand.the-variants as Resets
-use Rattle.flash.specs.declared.Phase.{Phase}
-use Rattle.flash.specs.declared.Phase.the-variants.{Reading, Erasing, Writing, Polling, Verifying, Resetting, Ended}
+use Rattle.phases.specs.declared.ReadCommand.the-variants as Reads
+use Rattle.phases.specs.declared.EraseCommand.the-variants as Erases
+use Rattle.phases.specs.declared.PollCommand.the-variants as Polls
+use Rattle.phases.specs.declared.ResetCommand.the-variants as Resets
+use Rattle.phases.specs.declared.Phase.{Phase}
+use Rattle.phases.specs.declared.Phase.the-variants.{Reading, Erasing, Writing, Polling, Verifying, Resetting, Ended}
 use Rattle.flash.specs.declared.Session.{Session}
 use Rattle.flash.specs.declared.Event.{Event}
 use Rattle.flash.specs.declared.Event.the-variants.{Send, Answered}
 use Rattle.flash.specs.declared.Stepped.{Stepped}
-use Rattle.flash.specs.declared.Start.{Start}
 use Rattle.flash.specs.Waits.{typesOf, waitsOn, eventOf, told}
-use Rattle.flash.specs.Steps.{goes, isEnded}
-use Rattle.flash.specs.Starts.{refused, starts, unlessRuns, inRange, haveTypes, roomFor, startRead, startReadParams, startErase, surveyFor, spanFits, startEraseSectors, startReset, startReadJedecId, startIsBusy, startIsProtected, startOut, checked, invalid, beginProgram, startProgram, beginData, startProgramData}
+use Rattle.phases.specs.Moves.{isEnded}
+use Rattle.flash.specs.Steps.{goes}
+use Rattle.flash.specs.Starts.{refused, starts, unlessRuns, inRange, haveTypes, roomFor, startRead, startReadParams, startErase, surveyFor, spanFits, startEraseSectors, startReset, startReadJedecId, startIsBusy, startIsProtected, startOut, checked, invalid, beginProgram, startProgram, beginData, startProgramData, Start}
 use Rattle.meaning.specs.Meaning.{Idle}
 use Rattle.on_part.specs.OnPart.{startOf}
 

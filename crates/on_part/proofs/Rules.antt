@@ -11,14 +11,16 @@ use Rattle.commands.specs.declared.Answer.{Answer}
 use Rattle.commands.specs.declared.Answer.the-variants.{Done, BadSetting, BadSession}
 use Rattle.commands.specs.Calls.{Call}
 use Rattle.commands.specs.Leaves.{refused}
-use Rattle.flash.specs.declared.Phase.{Phase}
-use Rattle.flash.specs.declared.Phase.the-variants.{Reading, Erasing, Writing, Polling, Verifying, Resetting, Ended}
+use Rattle.phases.specs.declared.Phase.{Phase}
+use Rattle.phases.specs.declared.Phase.the-variants.{Reading, Erasing, Writing, Polling, Verifying, Resetting, Ended}
 use Rattle.flash.specs.declared.Session.{Session}
 use Rattle.flash.specs.declared.Event.{Event}
 use Rattle.flash.specs.declared.Event.the-variants.{Answered}
 use Rattle.flash.specs.declared.Stepped.{Stepped}
-use Rattle.flash.specs.Waits.{needOf, eventOf, told}
-use Rattle.flash.specs.Steps.{isEnded, stepOf}
+use Rattle.phases.specs.Waits.{needOf}
+use Rattle.flash.specs.Waits.{eventOf, told}
+use Rattle.phases.specs.Moves.{isEnded}
+use Rattle.flash.specs.Steps.{stepOf}
 use Rattle.flash.specs.Starts.{fresh, unlessRuns, setTo, setting, withSettings}
 use Rattle.meaning.specs.Meaning.{Idle}
 use Rattle.nor_model.specs.Demand3.{Setter, AddressBytes, PageSize, EraseSize, EraseOpcode, PollLimit, Capacity, NoCapacity, settled, setBy}

@@ -21,8 +21,10 @@ use Rattle.commands.specs.Leaves.{OfBytes}
 use Rattle.flash.specs.declared.Session.{Session}
 use Rattle.flash.specs.declared.Event.the-variants.{Send, Answered}
 use Rattle.flash.specs.declared.Stepped.{Stepped}
-use Rattle.flash.specs.Waits.{waitsOn, needOf, told}
-use Rattle.flash.specs.Steps.{Taken, isEnded, stepOf}
+use Rattle.phases.specs.Waits.{needOf}
+use Rattle.flash.specs.Waits.{waitsOn, told}
+use Rattle.phases.specs.Moves.{isEnded}
+use Rattle.flash.specs.Steps.{Taken, stepOf}
 use Rattle.meaning.specs.Meaning.{keptOf, sentOf, takes, Idle}
 use Rattle.meaning.proofs.Rest.{seen, Fit}
 use Rattle.meaning.proofs.Stepping.{seen-told}

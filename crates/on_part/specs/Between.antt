@@ -13,11 +13,12 @@ use Rattle.commands.specs.declared.Answer.{Answer}
 use Rattle.commands.specs.declared.Answer.the-variants.{Done, BadSetting, NoRoom, BadSession}
 use Rattle.commands.specs.Calls.{Call}
 use Rattle.commands.specs.Leaves.{refused, roomNeed}
-use Rattle.flash.specs.declared.Phase.{Phase}
+use Rattle.phases.specs.declared.Phase.{Phase}
 use Rattle.flash.specs.declared.Session.{Session}
-use Rattle.flash.specs.declared.Transaction.{Transaction}
+use Rattle.phases.specs.declared.Transaction.{Transaction}
 use Rattle.flash.specs.declared.Event.the-variants.{Send, Answered}
-use Rattle.flash.specs.Steps.{Taken, isEnded, stepOf}
+use Rattle.flash.specs.Steps.{Taken, stepOf}
+use Rattle.phases.specs.Moves.{isEnded}
 use Rattle.flash.specs.Starts.{fresh}
 use Rattle.meaning.specs.Meaning.{keptOf, Idle}
 use Rattle.nor_model.specs.Demand3.{Setter, AddressBytes, PageSize, EraseSize, EraseOpcode, PollLimit, Capacity, NoCapacity, setBy}

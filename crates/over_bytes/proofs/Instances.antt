@@ -8,7 +8,7 @@ use lib.ListN.{replicate}
 use Rattle.settings.proofs.Laws.{new-sound}
 use Rattle.erase_plan.specs.Good.{Each}
 use Rattle.erase_plan.proofs.Lists.{no-true}
-use Rattle.flash.specs.Steps.{isEnded}
+use Rattle.phases.specs.Moves.{isEnded}
 use Rattle.nor_model.specs.Replay.{replay}
 use Rattle.nor_model.proofs.Instances.{odd, oddActs}
 use Rattle.on_part.proofs.Instances.{start, odd-premises}

@@ -9,16 +9,15 @@ use Rattle.erase_plan.proofs.Lists.{by-cond, each-append}
 use Rattle.commands.specs.Script.{over}
 use Rattle.commands.specs.Calls.{Call, Read, LegacyRead, ReadParams, Erase, EraseSectors, Program, ProgramData, Reset, ReadJedecId, IsBusy, IsProtected}
 use Rattle.room.specs.Room.{laid}
-use Rattle.flash.specs.declared.ReadCommand.{ReadCommand}
-use Rattle.flash.specs.declared.ReadCommand.the-variants as Reads
-use Rattle.flash.specs.declared.Phase.{Phase}
-use Rattle.flash.specs.declared.Phase.the-variants.{Reading, Erasing, Writing, Polling, Verifying, Resetting, Ended}
+use Rattle.phases.specs.declared.ReadCommand.{ReadCommand}
+use Rattle.phases.specs.declared.ReadCommand.the-variants as Reads
+use Rattle.phases.specs.declared.Phase.{Phase}
+use Rattle.phases.specs.declared.Phase.the-variants.{Reading, Erasing, Writing, Polling, Verifying, Resetting, Ended}
 use Rattle.flash.specs.declared.Session.{Session}
-use Rattle.flash.specs.declared.Start.{Start}
-use Rattle.flash.specs.declared.Start.the-variants.{Stays as stays, Begins as begins}
-use Rattle.flash.specs.Waits.{needOf}
-use Rattle.flash.specs.Steps.{readRoom, roomAfter, isEnded, isFull, Taken, stepOf}
-use Rattle.flash.specs.Starts.{startRoom, beginProgram, startProgram, beginData, startProgramData}
+use Rattle.phases.specs.Waits.{needOf}
+use Rattle.phases.specs.Moves.{readRoom, roomAfter, isEnded}
+use Rattle.flash.specs.Steps.{isFull, Taken, stepOf}
+use Rattle.flash.specs.Starts.{startRoom, beginProgram, startProgram, beginData, startProgramData, Start, stays, begins}
 use Rattle.on_part.specs.OnPart.{startOf}
 use Rattle.over_bytes.specs.OverBytes.{TypedCall}
 

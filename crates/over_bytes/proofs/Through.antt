@@ -9,7 +9,7 @@ use Rattle.commands.specs.Wire.{wire}
 use Rattle.commands.specs.Calls.{Call, Read, LegacyRead, ReadParams, Erase, EraseSectors, Program, ProgramData, Reset, ReadJedecId, IsBusy, IsProtected}
 use Rattle.commands.specs.Bounds.{most}
 use Rattle.flash.specs.declared.Session.{Session}
-use Rattle.flash.specs.declared.Transaction.{Transaction}
+use Rattle.phases.specs.declared.Transaction.{Transaction}
 use Rattle.flash.specs.declared.Event.{Event}
 use Rattle.flash.specs.declared.Event.the-variants.{Send, Answered}
 use Rattle.flash.specs.Steps.{Taken, stepOf}

@@ -5,8 +5,8 @@ use Prim.Native.Nat.{ℕ, zero, suc, _<_}
 use native.Mathlib.Omega.{arith}
 use lib.ListN.{getD, replicate}
 use Rattle.flash.specs.Starts.{fresh}
-use Rattle.flash.specs.declared.EraseCommand.the-variants as Erases
-use Rattle.flash.specs.declared.Phase.the-variants.{Erasing}
+use Rattle.phases.specs.declared.EraseCommand.the-variants as Erases
+use Rattle.phases.specs.declared.Phase.the-variants.{Erasing}
 use Rattle.flash.specs.declared.Session.{Session}
 use Rattle.packed.specs.Numbers.{words}
 use Rattle.packed.specs.Phases.{eraseIn, phaseIn}

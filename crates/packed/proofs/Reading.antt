@@ -10,12 +10,12 @@ use Rattle.sfdp.specs.Jesd216.{noType, noParams, fields, density, eraseTypes, e
 use Rattle.sfdp.specs.declared.FlashParams.{FlashParams}
 use Rattle.erase_plan.specs.Good.{Each}
 use Rattle.commands.specs.declared.Answer.the-variants as Answers
-use Rattle.flash.specs.declared.ReadCommand.the-variants as Reads
-use Rattle.flash.specs.declared.EraseCommand.the-variants as Erases
-use Rattle.flash.specs.declared.WriteCommand.the-variants as Writes
-use Rattle.flash.specs.declared.VerifyCommand.the-variants as Verifies
-use Rattle.flash.specs.declared.Command.the-variants as Commands
-use Rattle.flash.specs.declared.Phase.the-variants.{Ended}
+use Rattle.phases.specs.declared.ReadCommand.the-variants as Reads
+use Rattle.phases.specs.declared.EraseCommand.the-variants as Erases
+use Rattle.phases.specs.declared.WriteCommand.the-variants as Writes
+use Rattle.phases.specs.declared.VerifyCommand.the-variants as Verifies
+use Rattle.phases.specs.declared.Command.the-variants as Commands
+use Rattle.phases.specs.declared.Phase.the-variants.{Ended}
 use Rattle.packed.specs.declared.Reported.{Reported}
 use Rattle.packed.specs.declared.Slots.{Slots}
 use Rattle.packed.specs.declared.Place.{Place}

@@ -41,7 +41,7 @@ use Rattle.sfdp.specs.declared.SFDPTiming.{SFDPTiming}
 use Rattle.sfdp.specs.declared.SFDPRawTimes.{SFDPRawTimes}
 use Rattle.sfdp.specs.declared.FlashParams.{FlashParams}
 use Rattle.settings.specs.declared.Settings.{Settings}
-use Rattle.flash.specs.declared.Job.{Job}
+use Rattle.phases.specs.declared.Job.{Job}
 use Rattle.flash.specs.declared.Session.{Session}
 use Rattle.packed.specs.declared.SettingsWords.{SettingsWords}
 use Rattle.packed.specs.declared.ParamsWords.{ParamsWords}

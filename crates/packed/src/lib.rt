@@ -2,7 +2,7 @@
 // table at the head of specs/Layout.antt. Any bytes read as some session; `same` says whether bytes are exactly a session's.
 mod numbers;
 mod parts;
-mod phases;
+mod phase_words;
 
 ghost use mathlib.Core.Path.{_≡_};
 ghost use mathlib.Core.Bool.{Bool};
@@ -10,8 +10,8 @@ ghost use Prim.Native.Nat.{_+_, _*_, _≤_};
 ghost use lib.ListN.{length};
 ghost use Rattle.packed.specs.Numbers.{bytes, words, sameList};
 ghost use Rattle.packed.specs.Layout.{toWords, fromWords, bytesOf, sessionIn, putOver};
-use flash::Job;
 use flash::Session;
+use phases::Job;
 
 // Four bytes, and four yes-or-no marks.
 pub struct Four {
@@ -120,9 +120,9 @@ pub fn to_words(s: Session) -> [u32; 64]
     let m = parts::timing_words(timing);
     let polls_low = numbers::low(s.polls);
     let polls_high = numbers::high(s.polls);
-    let at = phases::place_of(phase);
-    let head = phases::place_head(at);
-    let next = phases::place_next(at);
+    let at = phase_words::place_of(phase);
+    let head = phase_words::place_head(at);
+    let next = phase_words::place_next(at);
     let c = at.slots;
     let j = c.job;
     [
@@ -200,7 +200,7 @@ pub fn from_words(w: &[u32; 64]) -> Session
     let settings = parts::settings_in(w);
     let known = parts::known_in(w);
     let params = parts::params_or_none(w);
-    let phase = phases::phase_in(phases::place_in(w));
+    let phase = phase_words::phase_in(phase_words::place_in(w));
     Session {
         settings: settings,
         known: known,

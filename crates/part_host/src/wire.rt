@@ -5,9 +5,9 @@ ghost use lib.ListN.{length};
 use crate::Play;
 use crate::source;
 use flash::Event;
-use flash::Transaction;
 use nor_part::Part;
 use nor_part::State;
+use phases::Transaction;
 
 fn sent_buffer() -> [u8; 1040]
     ensures { λ r. ⌜ 1040 ≡ length r ⌝ }

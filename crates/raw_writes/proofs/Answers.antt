@@ -18,17 +18,16 @@ use Rattle.commands.specs.Bounds.{most}
 use Rattle.commands.specs.Leaves.{refused, Left}
 use Rattle.commands.proofs.Left.{leaves}
 use Rattle.flash.specs.declared.Session.{Session}
-use Rattle.flash.specs.declared.Transaction.{Transaction}
+use Rattle.phases.specs.declared.Transaction.{Transaction}
 use Rattle.flash.specs.declared.Event.{Event}
 use Rattle.flash.specs.declared.Event.the-variants.{Send, Answered}
 use Rattle.flash.specs.declared.Stepped.{Stepped}
-use Rattle.flash.specs.declared.Start.the-variants.{Stays as stays, Begins as begins}
-use Rattle.flash.specs.declared.WriteCommand.the-variants as Writes
-use Rattle.flash.specs.declared.Command.the-variants as Ends
-use Rattle.flash.specs.declared.Phase.the-variants.{Writing}
+use Rattle.phases.specs.declared.WriteCommand.the-variants as Writes
+use Rattle.phases.specs.declared.Command.the-variants as Ends
+use Rattle.phases.specs.declared.Phase.the-variants.{Writing}
 use Rattle.flash.specs.Waits.{eventOf, told}
 use Rattle.flash.specs.Steps.{goes, ends, stepOf}
-use Rattle.flash.specs.Starts.{startOut, checked, invalid, beginData, startProgramData}
+use Rattle.flash.specs.Starts.{stays, begins, startOut, checked, invalid, beginData, startProgramData}
 use Rattle.meaning.specs.Meaning.{keptOf, sentOf}
 use Rattle.nor_model.specs.Device.{Part, State}
 use Rattle.nor_model.specs.Runs.{Times, Ran, replied, exec, replies}

@@ -26,8 +26,10 @@ use Rattle.commands.specs.Bounds.{pages}
 use Rattle.commands.specs.Leaves.{refused}
 use Rattle.room.specs.Room.{laid, partOf}
 use Rattle.flash.specs.declared.Session.{Session}
-use Rattle.flash.specs.Waits.{readTx, entryFor, blockTx, eraseTx, partLast, pagePause, pageTx, writeTx, flagged, pollTx, verifyTx, waitsOn, readNeed, eraseNeed, writeNeed, pollNeed, verifyNeed, needOf, eventOf, told}
-use Rattle.flash.specs.Steps.{toAfter, toBefore, readOn, readRoom, toPolls, lastWritten, nextErase, afterErase, nextWrite, toVerify, afterWrite, afterPolls, stillBusy, pollOn, firstDiffers, judged, verifyOn, advanced, roomAfter, isEnded, counted, isFull, stepOf}
+use Rattle.phases.specs.Waits.{readTx, blockTx, partLast, pageTx, writeTx, verifyTx, readNeed, eraseNeed, writeNeed, pollNeed, verifyNeed, needOf}
+use Rattle.flash.specs.Waits.{entryFor, eraseTx, pagePause, flagged, pollTx, waitsOn, eventOf, told}
+use Rattle.phases.specs.Moves.{toAfter, toBefore, readRoom, toPolls, lastWritten, nextErase, nextWrite, toVerify, afterWrite, stillBusy, firstDiffers, judged, verifyOn, roomAfter, isEnded}
+use Rattle.flash.specs.Steps.{readOn, afterErase, afterPolls, pollOn, advanced, counted, isFull, stepOf}
 use Rattle.flash.specs.Starts.{unlessRuns, startErase, beginProgram, startProgram, beginData, startProgramData, fresh, withSettings, setting}
 use Rattle.meaning.specs.Meaning.{keptOf}
 use Rattle.packed.specs.Layout.{bytesOf}

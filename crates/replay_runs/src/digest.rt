@@ -1,5 +1,5 @@
 // Digests: of all that is sent, in order, and of the bytes that a read gives.
-use flash::Transaction;
+use phases::Transaction;
 
 pub fn fold(d: u32, x: u32) -> u32 {
     (((d as u64) * 16_777_619 + (x as u64) + 1) % 4_294_967_291) as u32

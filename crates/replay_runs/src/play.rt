@@ -7,7 +7,7 @@ use dwords::number_at;
 use flash::Event;
 use flash::Session;
 use flash::Stepped;
-use flash::Transaction;
+use phases::Transaction;
 
 // A run under way.
 pub struct Play {

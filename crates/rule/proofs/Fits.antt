@@ -7,27 +7,28 @@ use native.Mathlib.Omega.{arith}
 use lib.ListN.{length}
 use borrow.Author.Tests.{ltb-true, leb-true}
 use Rattle.settings.proofs.Laws.{accepted-32}
-use Rattle.flash.specs.declared.Job.{Job}
-use Rattle.flash.specs.declared.ReadCommand.{ReadCommand}
-use Rattle.flash.specs.declared.ReadCommand.the-variants as Reads
-use Rattle.flash.specs.declared.EraseCommand.{EraseCommand}
-use Rattle.flash.specs.declared.EraseCommand.the-variants as Erases
-use Rattle.flash.specs.declared.WriteCommand.{WriteCommand}
-use Rattle.flash.specs.declared.WriteCommand.the-variants as Writes
-use Rattle.flash.specs.declared.PollCommand.{PollCommand}
-use Rattle.flash.specs.declared.PollCommand.the-variants as Polls
-use Rattle.flash.specs.declared.VerifyCommand.{VerifyCommand}
-use Rattle.flash.specs.declared.VerifyCommand.the-variants as Verifies
+use Rattle.phases.specs.declared.Job.{Job}
+use Rattle.phases.specs.declared.ReadCommand.{ReadCommand}
+use Rattle.phases.specs.declared.ReadCommand.the-variants as Reads
+use Rattle.phases.specs.declared.EraseCommand.{EraseCommand}
+use Rattle.phases.specs.declared.EraseCommand.the-variants as Erases
+use Rattle.phases.specs.declared.WriteCommand.{WriteCommand}
+use Rattle.phases.specs.declared.WriteCommand.the-variants as Writes
+use Rattle.phases.specs.declared.PollCommand.{PollCommand}
+use Rattle.phases.specs.declared.PollCommand.the-variants as Polls
+use Rattle.phases.specs.declared.VerifyCommand.{VerifyCommand}
+use Rattle.phases.specs.declared.VerifyCommand.the-variants as Verifies
 use Rattle.commands.specs.declared.Answer.{Answer}
 use Rattle.commands.specs.declared.Answer.the-variants as Answers
 use Rattle.erase_plan.proofs.Lists.{no-true}
-use Rattle.flash.specs.declared.Command.{Command}
-use Rattle.flash.specs.declared.Command.the-variants as Ends
-use Rattle.flash.specs.declared.Phase.{Phase}
-use Rattle.flash.specs.declared.Phase.the-variants.{Reading, Erasing, Writing, Polling, Verifying, Resetting, Ended}
+use Rattle.phases.specs.declared.Command.{Command}
+use Rattle.phases.specs.declared.Command.the-variants as Ends
+use Rattle.phases.specs.declared.Phase.{Phase}
+use Rattle.phases.specs.declared.Phase.the-variants.{Reading, Erasing, Writing, Polling, Verifying, Resetting, Ended}
 use Rattle.flash.specs.declared.Session.{Session}
-use Rattle.flash.specs.Waits.{typesOf, waitsOn, needOf}
-use Rattle.flash.specs.Steps.{isEnded}
+use Rattle.phases.specs.Waits.{needOf}
+use Rattle.flash.specs.Waits.{typesOf, waitsOn}
+use Rattle.phases.specs.Moves.{isEnded}
 use Rattle.commands.specs.Host.{asks}
 use Rattle.meaning.specs.Meaning.{sentOf, takes}
 use Rattle.meaning.proofs.Rest.{Ordered, FitRead, FitErase, FitWrite, FitPoll, FitVerify, FitPhase, Fit, meaning, seen}

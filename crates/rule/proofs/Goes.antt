@@ -27,27 +27,29 @@ use Rattle.commands.specs.declared.Answer.{Answer}
 use Rattle.commands.specs.declared.Answer.the-variants.{Done, DoneBool, ReadbackError, InvalidSFDPHeader, InvalidSFDPParams, Busy, NoSFDP}
 use Rattle.commands.specs.Transactions.{ready}
 use Rattle.commands.specs.Commands.{blank, idAt, firstId}
-use Rattle.flash.specs.declared.Job.{Job}
-use Rattle.flash.specs.declared.Mismatch.{Mismatch}
-use Rattle.flash.specs.declared.ReadCommand.{ReadCommand}
-use Rattle.flash.specs.declared.ReadCommand.the-variants as Reads
-use Rattle.flash.specs.declared.EraseCommand.{EraseCommand}
-use Rattle.flash.specs.declared.EraseCommand.the-variants as Erases
-use Rattle.flash.specs.declared.WriteCommand.{WriteCommand}
-use Rattle.flash.specs.declared.WriteCommand.the-variants as Writes
-use Rattle.flash.specs.declared.PollCommand.{PollCommand}
-use Rattle.flash.specs.declared.PollCommand.the-variants as Polls
-use Rattle.flash.specs.declared.VerifyCommand.{VerifyCommand}
-use Rattle.flash.specs.declared.VerifyCommand.the-variants as Verifies
-use Rattle.flash.specs.declared.ResetCommand.{ResetCommand}
-use Rattle.flash.specs.declared.ResetCommand.the-variants as Resets
-use Rattle.flash.specs.declared.Command.{Command}
-use Rattle.flash.specs.declared.Command.the-variants as Ends
-use Rattle.flash.specs.declared.Phase.{Phase}
-use Rattle.flash.specs.declared.Phase.the-variants.{Reading, Erasing, Writing, Polling, Verifying, Resetting, Ended}
+use Rattle.phases.specs.declared.Job.{Job}
+use Rattle.phases.specs.declared.Mismatch.{Mismatch}
+use Rattle.phases.specs.declared.ReadCommand.{ReadCommand}
+use Rattle.phases.specs.declared.ReadCommand.the-variants as Reads
+use Rattle.phases.specs.declared.EraseCommand.{EraseCommand}
+use Rattle.phases.specs.declared.EraseCommand.the-variants as Erases
+use Rattle.phases.specs.declared.WriteCommand.{WriteCommand}
+use Rattle.phases.specs.declared.WriteCommand.the-variants as Writes
+use Rattle.phases.specs.declared.PollCommand.{PollCommand}
+use Rattle.phases.specs.declared.PollCommand.the-variants as Polls
+use Rattle.phases.specs.declared.VerifyCommand.{VerifyCommand}
+use Rattle.phases.specs.declared.VerifyCommand.the-variants as Verifies
+use Rattle.phases.specs.declared.ResetCommand.{ResetCommand}
+use Rattle.phases.specs.declared.ResetCommand.the-variants as Resets
+use Rattle.phases.specs.declared.Command.{Command}
+use Rattle.phases.specs.declared.Command.the-variants as Ends
+use Rattle.phases.specs.declared.Phase.{Phase}
+use Rattle.phases.specs.declared.Phase.the-variants.{Reading, Erasing, Writing, Polling, Verifying, Resetting, Ended}
 use Rattle.flash.specs.declared.Session.{Session}
-use Rattle.flash.specs.Waits.{typesOf, entryFor, partLast, flagged, inPhase, spanOf}
-use Rattle.flash.specs.Steps.{goes, ends, toAfter, toBefore, withHeader, withTable, readOn, eraseEnds, writeEnds, toPolls, lastWritten, nextErase, afterErase, nextWrite, toVerify, afterWrite, afterPolls, stillBusy, pollOn, firstDiffers, judged, verifyOn, resetOn}
+use Rattle.phases.specs.Waits.{partLast, spanOf}
+use Rattle.flash.specs.Waits.{typesOf, entryFor, flagged, inPhase}
+use Rattle.phases.specs.Moves.{toAfter, toBefore, withHeader, eraseEnds, writeEnds, toPolls, lastWritten, nextErase, nextWrite, toVerify, afterWrite, stillBusy, firstDiffers, judged, verifyOn, resetOn, afterRead}
+use Rattle.flash.specs.Steps.{goes, ends, withTable, readOn, afterErase, afterPolls, pollOn}
 use Rattle.meaning.specs.Meaning.{Bytes}
 use Rattle.meaning.proofs.Unroll.{page-some}
 use Rattle.rule.specs.Rule.{settingsRule, jobOrdered, jobRule, planRule, writtenRule, differsRule, tableRule, readRule, eraseRule, writeRule, pollRule, verifyRule, allows66, resetRule, otherEnds, programEnds, endRule, hasTypes, phaseRule, erasesBehind, writesBehind, verifiesBehind, pollsDone, pollsLeft, waitRule, pollsRule, ruleOf}
@@ -213,7 +215,7 @@ module _ (s : Session) (sound : settingsRule (s .settings) ≡ true) where
 
   after-program : (J : Job) (to off n left : ℕ) → writeRule (s .settings) (Writes.Program J to off) ≡ true
       → pollsLeft n (s .settings .«poll_limit») (writesBehind (Writes.Program J to off)) left ≡ true
-      → Ok s (n + 1) (afterWrite s (Writes.Program J to off))
+      → Ok s (n + 1) (afterWrite (pageOf (s .settings)) (Writes.Program J to off))
   unfolding afterWrite nextWrite phaseRule writeRule writesBehind pollsRule
   after-program J to off n left h k =
       let t = held _ h in
@@ -239,7 +241,7 @@ module _ (s : Session) (sound : settingsRule (s .settings) ≡ true) where
 
   after-data : (a to off n left : ℕ) → writeRule (s .settings) (Writes.Data a to off) ≡ true
       → pollsLeft n (s .settings .«poll_limit») (writesBehind (Writes.Data a to off)) left ≡ true
-      → Ok s (n + 1) (afterWrite s (Writes.Data a to off))
+      → Ok s (n + 1) (afterWrite (pageOf (s .settings)) (Writes.Data a to off))
   unfolding afterWrite nextWrite phaseRule writeRule writesBehind pollsRule otherEnds
   after-data a to off n left h k =
       let t = held _ h in
@@ -256,7 +258,7 @@ module _ (s : Session) (sound : settingsRule (s .settings) ≡ true) where
       })
       (λ q. other (n + 1) Done refl (left-ended n (s .settings .«poll_limit») off left k (limits .1)))
 
-  after-write : (c : WriteCommand) (n left : ℕ) → writeRule (s .settings) c ≡ true → pollsLeft n (s .settings .«poll_limit») (writesBehind c) left ≡ true → Ok s (n + 1) (afterWrite s c)
+  after-write : (c : WriteCommand) (n left : ℕ) → writeRule (s .settings) c ≡ true → pollsLeft n (s .settings .«poll_limit») (writesBehind c) left ≡ true → Ok s (n + 1) (afterWrite (pageOf (s .settings)) c)
   after-write (Writes.Program J to off) n left h k = after-program J to off n left h k
   after-write (Writes.Data a to off) n left h k = after-data a to off n left h k
 
@@ -321,7 +323,7 @@ module _ (s : Session) (sound : settingsRule (s .settings) ≡ true) where
         by-cond (Ok s (n + 1)) (ready (flagged s) (byteAt r 0)) (afterErase s c room) (stillBusy (Polls.Erase c) left)
         (λ q. after-erase c room n left (held _ h .0) k) (λ q. still-erase c h k)
     poll-on (Polls.Write c) r room h k =
-        by-cond (Ok s (n + 1)) (ready (flagged s) (byteAt r 0)) (afterWrite s c) (stillBusy (Polls.Write c) left)
+        by-cond (Ok s (n + 1)) (ready (flagged s) (byteAt r 0)) (afterWrite (pageOf (s .settings)) c) (stillBusy (Polls.Write c) left)
         (λ q. after-write c n left (held _ h .0) k) (λ q. still-write c h k)
 
   -- ---- verify: the byte that differs lies in the span
@@ -372,7 +374,7 @@ module _ (s : Session) (sound : settingsRule (s .settings) ≡ true) where
 
   -- ---- an operation's opcode is answered: its polls
   pub polls-erase : (n : ℕ) (c : EraseCommand) → eraseRule (s .settings) (hasTypes s) c ≡ true → pollsDone n (s .settings .«poll_limit») (erasesBehind c) ≡ true
-      → ruleOf (toPolls s n (Polls.Erase c)) ≡ true
+      → ruleOf (goes s n (toPolls (s .settings .«poll_limit») (Polls.Erase c))) ≡ true
   unfolding toPolls phaseRule pollRule pollsRule waitRule
   polls-erase n c h k =
       let l : 1 ≤ s .settings .«poll_limit» = limits .0 in
@@ -383,7 +385,7 @@ module _ (s : Session) (sound : settingsRule (s .settings) ≡ true) where
       }))
 
   pub polls-write : (n : ℕ) (c : WriteCommand) → writeRule (s .settings) c ≡ true → pollsDone n (s .settings .«poll_limit») (writesBehind c) ≡ true
-      → ruleOf (toPolls s n (Polls.Write c)) ≡ true
+      → ruleOf (goes s n (toPolls (s .settings .«poll_limit») (Polls.Write c))) ≡ true
   unfolding toPolls phaseRule pollRule pollsRule waitRule
   polls-write n c h k =
       let l : 1 ≤ s .settings .«poll_limit» = limits .0 in
@@ -419,7 +421,7 @@ module _ (s : Session) (sound : settingsRule (s .settings) ≡ true) where
       (λ u. tt))
       (λ t. tt)
 
-  headed : (h : ReadHeader) → Small h → ruleOf (withHeader s 0 h) ≡ true
+  headed : (h : ReadHeader) → Small h → ruleOf (goes s 0 (withHeader h)) ≡ true
   unfolding withHeader readRule otherEnds
   headed OfHeader.NoSFDP o = read-ended NoSFDP refl
   headed OfHeader.InvalidSFDPHeader o = read-ended InvalidSFDPHeader refl
@@ -437,7 +439,7 @@ module _ (s : Session) (sound : settingsRule (s .settings) ≡ true) where
   id-ends (suc more) n r = by-cond (λ (a : Answer). otherEnds a ≡ true) (eqb (byteAt r n) 0x7F) (firstId more (n + 1) r) (idAt n r) (λ t. id-ends more (n + 1) r) (λ t. refl)
 
   pub read-on : (c : ReadCommand) (r : List ℕ) → Bytes r → readRule (s .settings) (hasTypes s) c ≡ true → ruleOf (readOn s 0 c r) ≡ true
-  unfolding readOn readRule otherEnds
+  unfolding readOn afterRead readRule otherEnds
   read-on (Reads.Read legacy a k) r b h = read-ended Done refl
   read-on Reads.Header r b h = reading (Reads.Headers (byteAt r 6)) (lt-ltb (byteAt r 6) 256 (b .below 6))
   read-on (Reads.Headers more) r b h = headed (readHeader r) (header-small r b)
@@ -445,7 +447,7 @@ module _ (s : Session) (sound : settingsRule (s .settings) ≡ true) where
   read-on (Reads.Before J) r b h = in-phase 0 (toAfter J) (to-after J (held _ h .0))
   read-on (Reads.After J) r b h = in-phase 0 (Erasing (Erases.Program J (J .from)) false) (plan-begins J (held _ h .0))
   read-on Reads.Id r b h =
-      by-cond (λ (x : Session). ruleOf x ≡ true) (eqb (byteAt r 0) 0x7F) (goes s 0 (Reading Reads.IdAgain)) (ends s 0 Ends.Other (idAt 0 r))
+      by-cond (λ (p : Phase). ruleOf (goes s 0 p) ≡ true) (eqb (byteAt r 0) 0x7F) (Reading Reads.IdAgain) (Ended Ends.Other (idAt 0 r))
       (λ t. reading Reads.IdAgain refl) (λ t. read-ended (idAt 0 r) refl)
   read-on Reads.IdAgain r b h = read-ended (firstId 13 1 r) (id-ends 13 1 r)
   read-on Reads.Protected r b h = read-ended _ refl

@@ -7,9 +7,10 @@ use Rattle.settings.specs.Limits.{withPollLimit}
 use Rattle.settings.specs.Ranges.{acceptedRange}
 use Rattle.erase_plan.specs.Types.{kept, present}
 use Rattle.commands.specs.declared.Answer.the-variants.{BadSession}
-use Rattle.flash.specs.declared.Command.the-variants as Ends
+use Rattle.phases.specs.declared.Command.the-variants as Ends
 use Rattle.flash.specs.declared.Session.{Session}
-use Rattle.flash.specs.Steps.{isEnded, ends}
+use Rattle.phases.specs.Moves.{isEnded}
+use Rattle.flash.specs.Steps.{ends}
 use Rattle.flash.specs.Starts.{startProgram, fresh, withSettings}
 use Rattle.flash.specs.Waits.{told}
 use native.Mathlib.Omega.{arith}
@@ -17,8 +18,9 @@ use Rattle.erase_plan.specs.Plan.{plan, planIn, nextPos, entryAt, chosen, chose
 use Rattle.erase_plan.specs.Span.{spanStart, spanEnd, surveyOf}
 use Rattle.plans.specs.Available.{available, ofSettings}
 use Rattle.flash.specs.Starts.{beginProgram}
-use Rattle.flash.specs.Steps.{toBefore, toAfter}
-use Rattle.flash.specs.Waits.{waitsOn, needOf, readNeed}
+use Rattle.phases.specs.Moves.{toBefore, toAfter}
+use Rattle.phases.specs.Waits.{needOf, readNeed}
+use Rattle.flash.specs.Waits.{waitsOn}
 use Rattle.commands.specs.Host.{asks}
 use Rattle.meaning.specs.Meaning.{sentOf, takes}
 use Rattle.meaning.proofs.Rest.{meaning, seen}

@@ -22,21 +22,20 @@ use Rattle.erase_plan.proofs.Ordering.{present-present}
 use Rattle.plans.specs.Available.{available}
 use Rattle.commands.specs.declared.Answer.{Answer}
 use Rattle.commands.specs.declared.Answer.the-variants.{Done, NoEraseInstruction, NoRoom, BadSession}
-use Rattle.flash.specs.declared.ReadCommand.the-variants as Reads
-use Rattle.flash.specs.declared.EraseCommand.the-variants as Erases
-use Rattle.flash.specs.declared.WriteCommand.the-variants as Writes
-use Rattle.flash.specs.declared.PollCommand.the-variants as Polls
-use Rattle.flash.specs.declared.ResetCommand.the-variants as Resets
-use Rattle.flash.specs.declared.Command.the-variants as Ends
-use Rattle.flash.specs.declared.Phase.{Phase}
-use Rattle.flash.specs.declared.Phase.the-variants.{Reading, Erasing, Writing, Polling, Verifying, Resetting, Ended}
+use Rattle.phases.specs.declared.ReadCommand.the-variants as Reads
+use Rattle.phases.specs.declared.EraseCommand.the-variants as Erases
+use Rattle.phases.specs.declared.WriteCommand.the-variants as Writes
+use Rattle.phases.specs.declared.PollCommand.the-variants as Polls
+use Rattle.phases.specs.declared.ResetCommand.the-variants as Resets
+use Rattle.phases.specs.declared.Command.the-variants as Ends
+use Rattle.phases.specs.declared.Phase.{Phase}
+use Rattle.phases.specs.declared.Phase.the-variants.{Reading, Erasing, Writing, Polling, Verifying, Resetting, Ended}
 use Rattle.flash.specs.declared.Session.{Session}
 use Rattle.flash.specs.declared.Stepped.{Stepped}
-use Rattle.flash.specs.declared.Start.{Start}
-use Rattle.flash.specs.declared.Start.the-variants.{Stays as stays, Begins as begins}
 use Rattle.flash.specs.Waits.{typesOf, told}
-use Rattle.flash.specs.Steps.{goes, toBefore, isEnded}
-use Rattle.flash.specs.Starts.{refused, starts, unlessRuns, inRange, haveTypes, roomFor, startRead, startReadParams, startErase, surveyFor, spanFits, startEraseSectors, startReset, startReadJedecId, startIsBusy, startIsProtected, startOut, checked, invalid, jobFor, beginSpan, beginProgram, startProgram, beginData, startProgramData, fresh, withSettings, setTo, setting}
+use Rattle.phases.specs.Moves.{toBefore, isEnded}
+use Rattle.flash.specs.Steps.{goes}
+use Rattle.flash.specs.Starts.{refused, starts, unlessRuns, inRange, haveTypes, roomFor, startRead, startReadParams, startErase, surveyFor, spanFits, startEraseSectors, startReset, startReadJedecId, startIsBusy, startIsProtected, startOut, checked, invalid, jobFor, beginSpan, beginProgram, startProgram, beginData, startProgramData, fresh, withSettings, setTo, setting, Start, stays, begins}
 use Rattle.meaning.proofs.Spanning.{Holds, span-holds}
 use Rattle.rule.specs.Rule.{settingsRule, readRule, eraseRule, writeRule, pollRule, allows66, resetRule, otherEnds, endRule, hasTypes, phaseRule, erasesBehind, writesBehind, waitRule, pollsRule, ruleOf}
 use Rattle.rule.specs.Kept.{Ruled, Kept}

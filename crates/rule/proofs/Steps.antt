@@ -12,24 +12,26 @@ use Rattle.erase_plan.specs.declared.Next.{Next}
 use Rattle.erase_plan.specs.declared.Next.the-variants.{Nothing, Entry}
 use Rattle.erase_plan.proofs.Lists.{by-cond, no-false}
 use Rattle.commands.specs.declared.Answer.the-variants.{Access}
-use Rattle.flash.specs.declared.Job.{Job}
-use Rattle.flash.specs.declared.ReadCommand.{ReadCommand}
-use Rattle.flash.specs.declared.ReadCommand.the-variants as Reads
-use Rattle.flash.specs.declared.EraseCommand.{EraseCommand}
-use Rattle.flash.specs.declared.EraseCommand.the-variants as Erases
-use Rattle.flash.specs.declared.WriteCommand.{WriteCommand}
-use Rattle.flash.specs.declared.WriteCommand.the-variants as Writes
-use Rattle.flash.specs.declared.PollCommand.{PollCommand}
-use Rattle.flash.specs.declared.PollCommand.the-variants as Polls
-use Rattle.flash.specs.declared.VerifyCommand.{VerifyCommand}
-use Rattle.flash.specs.declared.VerifyCommand.the-variants as Verifies
-use Rattle.flash.specs.declared.ResetCommand.{ResetCommand}
-use Rattle.flash.specs.declared.ResetCommand.the-variants as Resets
-use Rattle.flash.specs.declared.Phase.{Phase}
-use Rattle.flash.specs.declared.Phase.the-variants.{Reading, Erasing, Writing, Polling, Verifying, Resetting, Ended}
+use Rattle.phases.specs.declared.Job.{Job}
+use Rattle.phases.specs.declared.ReadCommand.{ReadCommand}
+use Rattle.phases.specs.declared.ReadCommand.the-variants as Reads
+use Rattle.phases.specs.declared.EraseCommand.{EraseCommand}
+use Rattle.phases.specs.declared.EraseCommand.the-variants as Erases
+use Rattle.phases.specs.declared.WriteCommand.{WriteCommand}
+use Rattle.phases.specs.declared.WriteCommand.the-variants as Writes
+use Rattle.phases.specs.declared.PollCommand.{PollCommand}
+use Rattle.phases.specs.declared.PollCommand.the-variants as Polls
+use Rattle.phases.specs.declared.VerifyCommand.{VerifyCommand}
+use Rattle.phases.specs.declared.VerifyCommand.the-variants as Verifies
+use Rattle.phases.specs.declared.ResetCommand.{ResetCommand}
+use Rattle.phases.specs.declared.ResetCommand.the-variants as Resets
+use Rattle.phases.specs.declared.Phase.{Phase}
+use Rattle.phases.specs.declared.Phase.the-variants.{Reading, Erasing, Writing, Polling, Verifying, Resetting, Ended}
 use Rattle.flash.specs.declared.Session.{Session}
-use Rattle.flash.specs.Waits.{readTx, entryFor, blockTx, eraseTx, pageTx, writeTx, pollTx, verifyTx, resetTx, waitsOn, needOf, told}
-use Rattle.flash.specs.Steps.{ends, readEnds, pollEnds, verifyEnds, endsAs, resetOn, advanced, isEnded, counted, isFull, Taken, stepOf}
+use Rattle.phases.specs.Waits.{readTx, blockTx, pageTx, writeTx, verifyTx, resetTx, needOf}
+use Rattle.flash.specs.Waits.{entryFor, eraseTx, pollTx, waitsOn, told, pagePause}
+use Rattle.phases.specs.Moves.{readEnds, pollEnds, verifyEnds, endsAs, resetOn, isEnded}
+use Rattle.flash.specs.Steps.{ends, advanced, counted, isFull, Taken, stepOf}
 use Rattle.meaning.specs.Meaning.{Bytes}
 use Rattle.meaning.proofs.Stepping.{counted-is}
 use Rattle.rule.specs.Rule.{settingsRule, readRule, pollRule, verifyRule, otherEnds, programEnds, hasTypes, phaseRule, erasesBehind, writesBehind, verifiesBehind, waitRule, pollsRule, ruleOf}
@@ -71,15 +73,15 @@ erase-poll s Erases.Chip = refl
 erase-poll s (Erases.Sectors p last) = block-poll (s .settings .«address_bytes») (entryFor s p last)
 erase-poll s (Erases.Program J p) = block-poll (s .settings .«address_bytes») (entryFor s p (J .last))
 
-write-poll : (s : Session) (c : WriteCommand) → writeTx s c .poll ≡ false
+write-poll : (x : Settings) (pause : ℕ) (c : WriteCommand) → writeTx x pause c .poll ≡ false
 unfolding writeTx pageTx
-write-poll s (Writes.Program J to off) = refl
-write-poll s (Writes.Data a to off) = refl
+write-poll x pause (Writes.Program J to off) = refl
+write-poll x pause (Writes.Data a to off) = refl
 
-verify-poll : (s : Session) (c : VerifyCommand) → verifyTx s c .poll ≡ false
+verify-poll : (bytes : ℕ) (c : VerifyCommand) → verifyTx bytes c .poll ≡ false
 unfolding verifyTx
-verify-poll s (Verifies.Compare J to) = refl
-verify-poll s (Verifies.Tell J m) = refl
+verify-poll bytes (Verifies.Compare J to) = refl
+verify-poll bytes (Verifies.Tell J m) = refl
 
 reset-poll : (c : ResetCommand) → resetTx c .poll ≡ false
 unfolding resetTx
@@ -96,10 +98,10 @@ unfolding waitsOn pollTx
 polls-after s (Reading c) n = none-more n _ (read-poll (s .settings) c)
 polls-after s (Erasing c true) n = none-more n _ (erase-poll s c)
 polls-after s (Erasing c false) n = none-more n false refl
-polls-after s (Writing c true) n = none-more n _ (write-poll s c)
+polls-after s (Writing c true) n = none-more n _ (write-poll (s .settings) (pagePause s) c)
 polls-after s (Writing c false) n = none-more n false refl
 polls-after s (Polling c left) n = refl
-polls-after s (Verifying c) n = none-more n _ (verify-poll s c)
+polls-after s (Verifying c) n = none-more n _ (verify-poll (s .settings .«address_bytes») c)
 polls-after s (Resetting c) n = none-more n _ (reset-poll c)
 polls-after s (Ended c a) n = none-more n false refl
 

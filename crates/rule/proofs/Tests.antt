@@ -12,8 +12,8 @@ use Rattle.settings.specs.Limits.{Sound}
 use Rattle.settings.specs.Ranges.{acceptedRange}
 use Rattle.settings.proofs.Laws.{accepted-32}
 use Rattle.erase_plan.proofs.Lists.{no-true, no-false}
-use Rattle.flash.specs.declared.Job.{Job}
-use Rattle.flash.specs.Waits.{spanOf}
+use Rattle.phases.specs.declared.Job.{Job}
+use Rattle.phases.specs.Waits.{spanOf}
 use Rattle.meaning.proofs.Rest.{Ordered}
 use Rattle.rule.specs.Rule.{all, settingsRule, jobOrdered, jobRule, planRule, writtenRule}
 

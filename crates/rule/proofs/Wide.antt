@@ -22,26 +22,28 @@ use Rattle.erase_plan.proofs.Lists.{by-cond, no-false}
 use Rattle.commands.specs.declared.Answer.the-variants.{Done, DoneBool, Access, Busy}
 use Rattle.commands.specs.Transactions.{ready}
 use Rattle.commands.specs.Commands.{idAt, firstId}
-use Rattle.flash.specs.declared.Job.{Job}
-use Rattle.flash.specs.declared.Mismatch.{Mismatch}
-use Rattle.flash.specs.declared.ReadCommand.{ReadCommand}
-use Rattle.flash.specs.declared.ReadCommand.the-variants as Reads
-use Rattle.flash.specs.declared.EraseCommand.{EraseCommand}
-use Rattle.flash.specs.declared.EraseCommand.the-variants as Erases
-use Rattle.flash.specs.declared.WriteCommand.{WriteCommand}
-use Rattle.flash.specs.declared.WriteCommand.the-variants as Writes
-use Rattle.flash.specs.declared.PollCommand.{PollCommand}
-use Rattle.flash.specs.declared.PollCommand.the-variants as Polls
-use Rattle.flash.specs.declared.VerifyCommand.{VerifyCommand}
-use Rattle.flash.specs.declared.VerifyCommand.the-variants as Verifies
-use Rattle.flash.specs.declared.ResetCommand.{ResetCommand}
-use Rattle.flash.specs.declared.ResetCommand.the-variants as Resets
-use Rattle.flash.specs.declared.Command.the-variants as Ends
-use Rattle.flash.specs.declared.Phase.{Phase}
-use Rattle.flash.specs.declared.Phase.the-variants.{Reading, Erasing, Writing, Polling, Verifying, Resetting, Ended}
+use Rattle.phases.specs.declared.Job.{Job}
+use Rattle.phases.specs.declared.Mismatch.{Mismatch}
+use Rattle.phases.specs.declared.ReadCommand.{ReadCommand}
+use Rattle.phases.specs.declared.ReadCommand.the-variants as Reads
+use Rattle.phases.specs.declared.EraseCommand.{EraseCommand}
+use Rattle.phases.specs.declared.EraseCommand.the-variants as Erases
+use Rattle.phases.specs.declared.WriteCommand.{WriteCommand}
+use Rattle.phases.specs.declared.WriteCommand.the-variants as Writes
+use Rattle.phases.specs.declared.PollCommand.{PollCommand}
+use Rattle.phases.specs.declared.PollCommand.the-variants as Polls
+use Rattle.phases.specs.declared.VerifyCommand.{VerifyCommand}
+use Rattle.phases.specs.declared.VerifyCommand.the-variants as Verifies
+use Rattle.phases.specs.declared.ResetCommand.{ResetCommand}
+use Rattle.phases.specs.declared.ResetCommand.the-variants as Resets
+use Rattle.phases.specs.declared.Command.the-variants as Ends
+use Rattle.phases.specs.declared.Phase.{Phase}
+use Rattle.phases.specs.declared.Phase.the-variants.{Reading, Erasing, Writing, Polling, Verifying, Resetting, Ended}
 use Rattle.flash.specs.declared.Session.{Session}
-use Rattle.flash.specs.Waits.{entryFor, partLast, flagged, needOf, told, inPhase}
-use Rattle.flash.specs.Steps.{goes, ends, toAfter, toBefore, withHeader, withTable, readOn, readEnds, eraseEnds, writeEnds, pollEnds, verifyEnds, endsAs, toPolls, lastWritten, nextErase, afterErase, nextWrite, toVerify, afterWrite, afterPolls, stillBusy, pollOn, firstDiffers, judged, verifyOn, resetOn, advanced, isEnded, counted, isFull, Taken, stepOf}
+use Rattle.phases.specs.Waits.{partLast, needOf}
+use Rattle.flash.specs.Waits.{entryFor, flagged, told, inPhase}
+use Rattle.phases.specs.Moves.{toAfter, toBefore, withHeader, readEnds, eraseEnds, writeEnds, pollEnds, verifyEnds, endsAs, toPolls, lastWritten, nextErase, nextWrite, toVerify, afterWrite, stillBusy, firstDiffers, judged, verifyOn, resetOn, isEnded, afterRead}
+use Rattle.flash.specs.Steps.{goes, withTable, readOn, afterErase, afterPolls, pollOn, advanced, counted, isFull, Taken, stepOf}
 use Rattle.meaning.specs.Meaning.{Bytes}
 use Rattle.rule.specs.Rule.{planRule, differsRule, tableRule, readRule, eraseRule, writeRule, pollRule, verifyRule, hasTypes, phaseRule}
 use Rattle.rule.specs.Kept.{Ruled, Whole}
@@ -129,7 +131,7 @@ module _ (s : Session) (w : Wide s) where
       (λ t. id-typed more (n + 1) r b (omega arith))
       (λ t. (omega arith, b .below n, omega arith))
 
-  headed : (n : ℕ) (h : ReadHeader) → Wide (withHeader s n h)
+  headed : (n : ℕ) (h : ReadHeader) → Wide (goes s n (withHeader h))
   unfolding withHeader
   headed n OfHeader.NoSFDP = wide-in _ n (tt, tt)
   headed n OfHeader.InvalidSFDPHeader = wide-in _ n (tt, tt)
@@ -149,7 +151,7 @@ module _ (s : Session) (w : Wide s) where
       }
 
   read-on : (c : ReadCommand) (n : ℕ) (r : List ℕ) → Bytes r → readRule (s .settings) (hasTypes s) c ≡ true → Wide (readOn s n c r)
-  unfolding readOn readRule tableRule
+  unfolding readOn afterRead readRule tableRule
   read-on (Reads.Read legacy a k) n r b h = wide-in _ n (tt, tt)
   read-on Reads.Header n r b h = wide-in _ n tt
   read-on (Reads.Headers more) n r b h = headed n (readHeader r)
@@ -159,7 +161,7 @@ module _ (s : Session) (w : Wide s) where
   read-on Reads.Id n r b h =
       let x : byteAt r 1 < 256 = b .below 1 in
       let y : byteAt r 2 < 256 = b .below 2 in
-      by-cond Wide (eqb (byteAt r 0) 0x7F) (goes s n (Reading Reads.IdAgain)) (ends s n Ends.Other (idAt 0 r))
+      by-cond (λ (p : Phase). Wide (goes s n p)) (eqb (byteAt r 0) 0x7F) (Reading Reads.IdAgain) (Ended Ends.Other (idAt 0 r))
       (λ t. wide-in _ n tt) (λ t. wide-in (Ended Ends.Other (idAt 0 r)) n (tt, (omega arith, b .below 0, omega arith)))
   read-on Reads.IdAgain n r b h = wide-in (Ended Ends.Other (firstId 13 1 r)) n (tt, id-typed 13 1 r b (omega arith))
   read-on Reads.Protected n r b h = wide-in _ n (tt, tt)
@@ -227,7 +229,7 @@ module _ (s : Session) (w : Wide s) where
   unfolding toVerify
   to-verify J to j = by-cond Narrow (J .verified) (Verifying (Verifies.Compare J to)) (Ended (Ends.Program J true) Done) (λ t. tt) (λ t. (j, tt))
 
-  after-write : (c : WriteCommand) → writeRule (s .settings) c ≡ true → Narrow (afterWrite s c)
+  after-write : (c : WriteCommand) → writeRule (s .settings) c ≡ true → Narrow (afterWrite (pageOf (s .settings)) c)
   unfolding afterWrite nextWrite writeRule
   after-write (Writes.Program J to off) h =
       by-cond Narrow (ltb (partLast (pageOf (s .settings)) (J .base) off to) to) _ (toVerify J to)
@@ -243,20 +245,20 @@ module _ (s : Session) (w : Wide s) where
       by-cond Narrow (ready (flagged s) (byteAt r 0)) (afterErase s c room) _ (λ t. after-erase c room)
       (λ t. by-cond Narrow (eqb left 0) (Ended (eraseEnds c) Busy) (Polling (Polls.Erase c) (left - 1)) (λ u. (erase-command c (held _ h .0), tt)) (λ u. tt))
   poll-on (Polls.Write c) left r room h =
-      by-cond Narrow (ready (flagged s) (byteAt r 0)) (afterWrite s c) _ (λ t. after-write c (held _ h .0))
+      by-cond Narrow (ready (flagged s) (byteAt r 0)) (afterWrite (pageOf (s .settings)) c) _ (λ t. after-write c (held _ h .0))
       (λ t. by-cond Narrow (eqb left 0) (Ended (writeEnds c) Busy) (Polling (Polls.Write c) (left - 1)) (λ u. (write-command c (held _ h .0), tt)) (λ u. tt))
 
-  to-polls : (c : PollCommand) (n : ℕ) → TypedCommand (pollEnds c) → Wide (toPolls s n c)
+  to-polls : (c : PollCommand) (n : ℕ) → TypedCommand (pollEnds c) → Wide (goes s n (toPolls (s .settings .«poll_limit») c))
   unfolding toPolls
   to-polls c n k =
-      by-cond Wide (eqb (s .settings .«poll_limit») 0) (ends s n (pollEnds c) Busy) (goes s n (Polling c (s .settings .«poll_limit» - 1)))
+      by-cond (λ (p : Phase). Wide (goes s n p)) (eqb (s .settings .«poll_limit») 0) (Ended (pollEnds c) Busy) (Polling c (s .settings .«poll_limit» - 1))
       (λ t. wide-in (Ended (pollEnds c) Busy) n (k, tt)) (λ t. wide-in _ n tt)
 
-  to-polls-erase : (c : EraseCommand) (n : ℕ) → eraseRule (s .settings) (hasTypes s) c ≡ true → Wide (toPolls s n (Polls.Erase c))
+  to-polls-erase : (c : EraseCommand) (n : ℕ) → eraseRule (s .settings) (hasTypes s) c ≡ true → Wide (goes s n (toPolls (s .settings .«poll_limit») (Polls.Erase c)))
   unfolding pollEnds
   to-polls-erase c n h = to-polls (Polls.Erase c) n (erase-command c h)
 
-  to-polls-write : (c : WriteCommand) (n : ℕ) → writeRule (s .settings) c ≡ true → Wide (toPolls s n (Polls.Write c))
+  to-polls-write : (c : WriteCommand) (n : ℕ) → writeRule (s .settings) c ≡ true → Wide (goes s n (toPolls (s .settings .«poll_limit») (Polls.Write c)))
   unfolding pollEnds
   to-polls-write c n h = to-polls (Polls.Write c) n (write-command c h)
 

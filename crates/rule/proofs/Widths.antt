@@ -15,19 +15,19 @@ use Rattle.settings.specs.Limits.{Sound}
 use Rattle.settings.specs.Updated.{legacyErase, orElse, chosenErase, opcodeOr, updated}
 use Rattle.settings.proofs.Laws.{accepted-nonempty, accepted-32}
 use Rattle.erase_plan.proofs.Lists.{by-cond}
-use Rattle.flash.specs.declared.Job.{Job}
-use Rattle.flash.specs.declared.ReadCommand.{ReadCommand}
-use Rattle.flash.specs.declared.ReadCommand.the-variants as Reads
-use Rattle.flash.specs.declared.EraseCommand.{EraseCommand}
-use Rattle.flash.specs.declared.EraseCommand.the-variants as Erases
-use Rattle.flash.specs.declared.WriteCommand.{WriteCommand}
-use Rattle.flash.specs.declared.WriteCommand.the-variants as Writes
-use Rattle.flash.specs.declared.PollCommand.{PollCommand}
-use Rattle.flash.specs.declared.PollCommand.the-variants as Polls
-use Rattle.flash.specs.declared.VerifyCommand.{VerifyCommand}
-use Rattle.flash.specs.declared.VerifyCommand.the-variants as Verifies
-use Rattle.flash.specs.declared.Phase.{Phase}
-use Rattle.flash.specs.declared.Phase.the-variants.{Reading, Erasing, Writing, Polling, Verifying, Resetting, Ended}
+use Rattle.phases.specs.declared.Job.{Job}
+use Rattle.phases.specs.declared.ReadCommand.{ReadCommand}
+use Rattle.phases.specs.declared.ReadCommand.the-variants as Reads
+use Rattle.phases.specs.declared.EraseCommand.{EraseCommand}
+use Rattle.phases.specs.declared.EraseCommand.the-variants as Erases
+use Rattle.phases.specs.declared.WriteCommand.{WriteCommand}
+use Rattle.phases.specs.declared.WriteCommand.the-variants as Writes
+use Rattle.phases.specs.declared.PollCommand.{PollCommand}
+use Rattle.phases.specs.declared.PollCommand.the-variants as Polls
+use Rattle.phases.specs.declared.VerifyCommand.{VerifyCommand}
+use Rattle.phases.specs.declared.VerifyCommand.the-variants as Verifies
+use Rattle.phases.specs.declared.Phase.{Phase}
+use Rattle.phases.specs.declared.Phase.the-variants.{Reading, Erasing, Writing, Polling, Verifying, Resetting, Ended}
 use Rattle.flash.specs.declared.Session.{Session}
 use Rattle.rule.specs.Rule.{jobRule, planRule, differsRule, tableRule, readRule, eraseRule, writeRule, pollRule, verifyRule, hasTypes, phaseRule}
 use Rattle.packed.specs.Typed.{U8, U16, U64, TypedSettings, TypedParams, TypedJob, TypedRead, TypedErase, TypedWrite, TypedPoll, TypedVerify, TypedCommand, TypedAnswer, TypedPhase}

@@ -8,8 +8,8 @@ use Rattle.settings.specs.declared.SetAnswer.the-variants.{Set}
 use Rattle.settings.specs.Limits.{Sound, setAddressBytes, setPageSize, setEraseSize, setPollLimit, setCapacity, clearCapacity, setEraseOpcode}
 use Rattle.commands.specs.declared.Answer.{Answer}
 use Rattle.commands.specs.Answers.{numberOf}
-use Rattle.flash.specs.declared.Command.{Command}
-use Rattle.flash.specs.declared.Phase.the-variants.{Ended}
+use Rattle.phases.specs.declared.Command.{Command}
+use Rattle.phases.specs.declared.Phase.the-variants.{Ended}
 use Rattle.flash.specs.declared.Session.{Session}
 use Rattle.flash.specs.Steps.{stepOf}
 use Rattle.flash.specs.Starts.{startRead, startReadParams, startErase, startEraseSectors, startProgram, startProgramData, startReset, startReadJedecId, startIsBusy, startIsProtected, fresh, setting}

@@ -2,11 +2,11 @@
 ghost use mathlib.Core.Path.{_≡_};
 ghost use Prim.Native.Nat.{_-_};
 ghost use Rattle.rule.specs.Rule.{erasesBehind, writesBehind, verifiesBehind, pollsOf, pollsDone, pollsLeft, waitRule, pollsRule};
-use flash::EraseCommand;
-use flash::Phase;
-use flash::PollCommand;
-use flash::VerifyCommand;
-use flash::WriteCommand;
+use phases::EraseCommand;
+use phases::Phase;
+use phases::PollCommand;
+use phases::VerifyCommand;
+use phases::WriteCommand;
 
 // The difference, 0 where it would be below 0.
 fn minus(a: u64, b: u64) -> u64

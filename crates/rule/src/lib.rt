@@ -1,13 +1,13 @@
 // The session's own rule, as one test: what holds of each session that a start, a step or a setter hands back.
 mod behind;
-mod phases;
+mod phase_rules;
 
 ghost use mathlib.Core.Path.{_≡_};
 ghost use mathlib.Core.Bool.{_&&_, _||_};
 ghost use lib.Dec.{eqb, leb};
 ghost use Rattle.rule.specs.Rule.{settingsRule, phaseRule, pollsRule, ruleOf};
-use flash::Phase;
 use flash::Session;
+use phases::Phase;
 use settings::Settings;
 
 // A capacity of 0 where it is not set.
@@ -57,21 +57,25 @@ pub fn phase_holds(s: Session, p: Phase) -> bool
 {
     let x = s.settings;
     match p {
-        Phase::Reading { command } => phases::read_holds(x, phases::has_types(s), command),
+        Phase::Reading { command } => phase_rules::read_holds(
+            x,
+            phase_rules::has_types(s),
+            command,
+        ),
         Phase::Erasing {
             command,
             enabled: _,
-        } => phases::erase_holds(x, phases::has_types(s), command),
+        } => phase_rules::erase_holds(x, phase_rules::has_types(s), command),
         Phase::Writing {
             command,
             enabled: _,
-        } => phases::write_holds(x, command),
+        } => phase_rules::write_holds(x, command),
         Phase::Polling { command, left } => {
-            phases::poll_holds(x, phases::has_types(s), command, left)
+            phase_rules::poll_holds(x, phase_rules::has_types(s), command, left)
         }
-        Phase::Verifying { command } => phases::verify_holds(x, command),
-        Phase::Resetting { command } => phases::reset_holds(s, command),
-        Phase::Ended { command, answer } => phases::end_holds(command, answer),
+        Phase::Verifying { command } => phase_rules::verify_holds(x, command),
+        Phase::Resetting { command } => phase_rules::reset_holds(s, command),
+        Phase::Ended { command, answer } => phase_rules::end_holds(command, answer),
     }
 }
 

@@ -7,15 +7,12 @@ use Rattle.flash.proofs.entry_for.Lts as lts
 use Rattle.erase_plan.proofs.next_entry.Reads as next-entry-reads
 use Rattle.plans.proofs.erase_types.Reads as erase-types-reads
 
--- src/lib.rt:231:28
 erase-types-requires : tie.Need-erase-types-requires
 erase-types-requires c κs = search needs
 
--- src/lib.rt:231:5
 next-entry-requires : tie.Need-next-entry-requires
 next-entry-requires c κs = search needs
 
--- src/lib.rt:226:1
 returns : tie.Need-returns
 unfolding entryFor
 returns c = rw (c .next-entry .ensures, c .before .erase-types .ensures)

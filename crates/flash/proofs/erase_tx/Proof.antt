@@ -4,53 +4,42 @@ use Rattle.flash.proofs.erase_tx.Statement.{statement}
 use Rattle.flash.proofs.erase_tx.Tie as tie
 use Rattle.flash.proofs.erase_tx.Reads as reads
 use Rattle.flash.proofs.erase_tx.Lts as lts
-use Rattle.flash.proofs.bare_tx.Reads as bare-tx-reads
-use Rattle.flash.proofs.block_tx.Reads as block-tx-reads
+use Rattle.phases.proofs.bare_tx.Reads as bare-tx-reads
+use Rattle.phases.proofs.block_tx.Reads as block-tx-reads
 use Rattle.flash.proofs.entry_for.Reads as entry-for-reads
 
--- src/lib.rt:255:31
 enum-told : tie.Need-enum-told
 enum-told c = search needs
 
--- src/lib.rt:255:31
 bare-tx-requires : tie.Need-bare-tx-requires
 bare-tx-requires c κs = search needs
 
--- src/lib.rt:256:31
 enum-known-c : tie.Need-enum-known-c
 enum-known-c c = search needs
 
--- src/lib.rt:256:60
 entry-for-requires : tie.Need-entry-for-requires
 entry-for-requires c κs = search needs
 
--- src/lib.rt:256:44
 block-tx-requires : tie.Need-block-tx-requires
 block-tx-requires c κs = search needs
 
--- src/lib.rt:257:31
 enum-known-c-2 : tie.Need-enum-known-c-2
 enum-known-c-2 c = search needs
 
--- src/lib.rt:257:59
 entry-for-requires-2 : tie.Need-entry-for-requires-2
 entry-for-requires-2 c κs = search needs
 
--- src/lib.rt:257:43
 block-tx-requires-2 : tie.Need-block-tx-requires-2
 block-tx-requires-2 c κs = search needs
 
--- src/lib.rt:249:1
 returns : tie.Need-returns
 unfolding eraseTx
 returns c = rw (c .bare-tx .ensures, c .before .enum-told .given .1)
 
--- src/lib.rt:249:1
 returns-2 : tie.Need-returns-2
 unfolding eraseTx
 returns-2 c = rw (c .block-tx .ensures, c .before .entry-for .ensures, c .before .before .before .c .given .1)
 
--- src/lib.rt:249:1
 returns-3 : tie.Need-returns-3
 unfolding eraseTx
 returns-3 c = rw (c .block-tx2 .ensures, c .before .entry-for2 .ensures, c .before .before .before .c2 .given .1)

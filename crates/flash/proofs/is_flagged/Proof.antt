@@ -4,12 +4,10 @@ use Rattle.flash.proofs.is_flagged.Tie as tie
 use Rattle.flash.proofs.is_flagged.Reads as reads
 use Rattle.flash.proofs.is_flagged.Lts as lts
 
--- src/lib.rt:314:1
 returns : tie.Need-returns
 unfolding flagged
 returns c = rw (c .if1 .taken)
 
--- src/lib.rt:314:1
 returns-2 : tie.Need-returns-2
 unfolding flagged
 returns-2 c = rw (c .if1 .left)

@@ -5,22 +5,18 @@ use Rattle.flash.proofs.page_pause.Tie as tie
 use Rattle.flash.proofs.page_pause.Reads as reads
 use Rattle.flash.proofs.page_pause.Lts as lts
 
--- src/lib.rt:279:17
 returns : tie.Need-returns
 unfolding pagePause
 returns c = rw (c .before .before .before .before .if1 .taken, c .before .before .before .if2 .taken, lt-ltb _ _ (c .before .if3 .taken))
 
--- src/lib.rt:271:1
 returns-2 : tie.Need-returns-2
 unfolding pagePause
 returns-2 c = rw (c .before .before .before .if1 .taken, c .before .before .if2 .taken, le-ltb _ _ (c .if3 .left))
 
--- src/lib.rt:271:1
 returns-3 : tie.Need-returns-3
 unfolding pagePause
 returns-3 c = rw (c .before .if1 .taken, c .if2 .left)
 
--- src/lib.rt:271:1
 returns-4 : tie.Need-returns-4
 unfolding pagePause
 returns-4 c = rw (c .if1 .left)

@@ -4,23 +4,19 @@ use Rattle.flash.proofs.poll_tx.Statement.{statement}
 use Rattle.flash.proofs.poll_tx.Tie as tie
 use Rattle.flash.proofs.poll_tx.Reads as reads
 use Rattle.flash.proofs.poll_tx.Lts as lts
-use Rattle.flash.proofs.bare_tx.Reads as bare-tx-reads
+use Rattle.phases.proofs.bare_tx.Reads as bare-tx-reads
 use Rattle.flash.proofs.is_flagged.Reads as is-flagged-reads
 
--- src/lib.rt:324:9
 bare-tx-requires : tie.Need-bare-tx-requires
 bare-tx-requires c κs = search needs
 
--- src/lib.rt:326:8
 is-flagged-requires : tie.Need-is-flagged-requires
 is-flagged-requires c κs = search needs
 
--- src/lib.rt:321:1
 returns : tie.Need-returns
 unfolding pollTx
 returns c = rw (← c .before .is-flagged .ensures, c .before .before .bare-tx .ensures, c .if1 .taken)
 
--- src/lib.rt:321:1
 returns-2 : tie.Need-returns-2
 unfolding pollTx
 returns-2 c = rw (← c .before .is-flagged .ensures, c .before .before .bare-tx .ensures, c .if1 .left)

@@ -8,8 +8,8 @@ use Rattle.packed.proofs.numbers.wide.Reads as wide-reads
 use Rattle.packed.proofs.parts.known_in.Reads as known-in-reads
 use Rattle.packed.proofs.parts.params_or_none.Reads as params-or-none-reads
 use Rattle.packed.proofs.parts.settings_in.Reads as settings-in-reads
-use Rattle.packed.proofs.phases.phase_in.Reads as phase-in-reads
-use Rattle.packed.proofs.phases.place_in.Reads as place-in-reads
+use Rattle.packed.proofs.phase_words.phase_in.Reads as phase-in-reads
+use Rattle.packed.proofs.phase_words.place_in.Reads as place-in-reads
 
 -- src/lib.rt:147:9
 settings-in-requires : tie.Need-settings-in-requires

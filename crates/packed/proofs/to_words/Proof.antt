@@ -12,9 +12,9 @@ use Rattle.packed.proofs.parts.params_words.Reads as params-words-reads
 use Rattle.packed.proofs.parts.settings_words.Reads as settings-words-reads
 use Rattle.packed.proofs.parts.shown_params.Reads as shown-params-reads
 use Rattle.packed.proofs.parts.timing_words.Reads as timing-words-reads
-use Rattle.packed.proofs.phases.place_head.Reads as place-head-reads
-use Rattle.packed.proofs.phases.place_next.Reads as place-next-reads
-use Rattle.packed.proofs.phases.place_of.Reads as place-of-reads
+use Rattle.packed.proofs.phase_words.place_head.Reads as place-head-reads
+use Rattle.packed.proofs.phase_words.place_next.Reads as place-next-reads
+use Rattle.packed.proofs.phase_words.place_of.Reads as place-of-reads
 
 -- src/lib.rt:111:9
 shown-params-requires : tie.Need-shown-params-requires

@@ -4,14 +4,14 @@ use Rattle.rule.proofs.phase_holds.Statement.{statement}
 use Rattle.rule.proofs.phase_holds.Tie as tie
 use Rattle.rule.proofs.phase_holds.Reads as reads
 use Rattle.rule.proofs.phase_holds.Lts as lts
-use Rattle.rule.proofs.phases.end_holds.Reads as end-holds-reads
-use Rattle.rule.proofs.phases.erase_holds.Reads as erase-holds-reads
-use Rattle.rule.proofs.phases.has_types.Reads as has-types-reads
-use Rattle.rule.proofs.phases.poll_holds.Reads as poll-holds-reads
-use Rattle.rule.proofs.phases.read_holds.Reads as read-holds-reads
-use Rattle.rule.proofs.phases.reset_holds.Reads as reset-holds-reads
-use Rattle.rule.proofs.phases.verify_holds.Reads as verify-holds-reads
-use Rattle.rule.proofs.phases.write_holds.Reads as write-holds-reads
+use Rattle.rule.proofs.phase_rules.end_holds.Reads as end-holds-reads
+use Rattle.rule.proofs.phase_rules.erase_holds.Reads as erase-holds-reads
+use Rattle.rule.proofs.phase_rules.has_types.Reads as has-types-reads
+use Rattle.rule.proofs.phase_rules.poll_holds.Reads as poll-holds-reads
+use Rattle.rule.proofs.phase_rules.read_holds.Reads as read-holds-reads
+use Rattle.rule.proofs.phase_rules.reset_holds.Reads as reset-holds-reads
+use Rattle.rule.proofs.phase_rules.verify_holds.Reads as verify-holds-reads
+use Rattle.rule.proofs.phase_rules.write_holds.Reads as write-holds-reads
 
 -- src/lib.rt:53:26
 enum-known-p : tie.Need-enum-known-p

@@ -1,49 +1,48 @@
-use mathlib.Core.Path.{refl}
+use mathlib.Core.Path.{refl, sym}
 use Rattle.flash.specs.Starts.{startProgram}
 use borrow.Author.Needs.{needs}
 use Rattle.flash.proofs.Session.program.Statement.{statement}
 use Rattle.flash.proofs.Session.program.Tie as tie
 use Rattle.flash.proofs.Session.program.Reads as reads
 use Rattle.flash.proofs.Session.program.Lts as lts
-use Rattle.flash.proofs.Session.tell.Reads as tell-reads
 use Rattle.flash.proofs.starts.begin_program.Reads as begin-program-reads
-use Rattle.room.proofs.lay.Reads as lay-reads
+use Rattle.flash.proofs.starts.lay_first.Reads as lay-first-reads
+use Rattle.flash.proofs.starts.started.Reads as started-reads
+use Rattle.flash.proofs.starts.types_of.Reads as types-of-reads
+use Rattle.phases.proofs.ends.is_ended.Reads as is-ended-reads
+
+is-ended-requires : tie.Need-is-ended-requires
+is-ended-requires c κs = search needs
+
+types-of-requires : tie.Need-types-of-requires
+types-of-requires c κs = search needs
 
 begin-program-requires : tie.Need-begin-program-requires
 begin-program-requires c κs = search needs
 
-enum-known-x : tie.Need-enum-known-x
-enum-known-x c = search needs
+lay-first-requires : tie.Need-lay-first-requires
+lay-first-requires c κs = search needs
 
-enum-known-at : tie.Need-enum-known-at
-enum-known-at c = search needs
-
-lay-requires : tie.Need-lay-requires
-lay-requires c κs = search needs
-
-tell-requires : tie.Need-tell-requires
-tell-requires c κs = search needs
-
-returns : tie.Need-returns
-unfolding startProgram
-returns c = rw (← c .before .before .before .begin-program .ensures, c .before .x .given .1) (refl, refl)
+started-requires : tie.Need-started-requires
+started-requires c κs = search needs
 
 same-length : tie.Need-same-length
 same-length c = search needs
 
-returns-2 : tie.Need-returns-2
+returns : tie.Need-returns
 unfolding startProgram
-returns-2 c = rw (c .tell .ensures, ← c .before .before .before .before .before .before .before .before .begin-program .ensures, c .before .before .before .before .before .before .at .given .1) (refl, c .before .before .before .lay .ensures)
+returns c =
+    let s = c .before .before .before .before .before .before .before .before .before .before .before .args .self in
+    rw (c .started .ensures, ← c .before .before .before .before .before .begin-program .ensures s (sym (c .before .before .before .before .before .before .before .is-ended .ensures)) refl (c .before .before .before .before .before .before .types-of .ensures)) (refl, c .before .before .before .lay-first .ensures s)
 
 pub program-spec : {M : Type 1} → statement M
 program-spec =
     tie.close
     (tie.spec
+    is-ended-requires
+    types-of-requires
     begin-program-requires
-    enum-known-x
-    enum-known-at
-    lay-requires
-    tell-requires
-    returns
+    lay-first-requires
+    started-requires
     same-length
-    returns-2)
+    returns)

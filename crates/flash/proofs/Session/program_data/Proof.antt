@@ -1,49 +1,43 @@
-use mathlib.Core.Path.{refl}
+use mathlib.Core.Path.{refl, sym}
 use Rattle.flash.specs.Starts.{startProgramData}
 use borrow.Author.Needs.{needs}
 use Rattle.flash.proofs.Session.program_data.Statement.{statement}
 use Rattle.flash.proofs.Session.program_data.Tie as tie
 use Rattle.flash.proofs.Session.program_data.Reads as reads
 use Rattle.flash.proofs.Session.program_data.Lts as lts
-use Rattle.flash.proofs.Session.tell.Reads as tell-reads
 use Rattle.flash.proofs.starts.begin_data.Reads as begin-data-reads
-use Rattle.room.proofs.lay.Reads as lay-reads
+use Rattle.flash.proofs.starts.lay_first.Reads as lay-first-reads
+use Rattle.flash.proofs.starts.started.Reads as started-reads
+use Rattle.phases.proofs.ends.is_ended.Reads as is-ended-reads
+
+is-ended-requires : tie.Need-is-ended-requires
+is-ended-requires c κs = search needs
 
 begin-data-requires : tie.Need-begin-data-requires
 begin-data-requires c κs = search needs
 
-enum-known-x : tie.Need-enum-known-x
-enum-known-x c = search needs
+lay-first-requires : tie.Need-lay-first-requires
+lay-first-requires c κs = search needs
 
-enum-known-at : tie.Need-enum-known-at
-enum-known-at c = search needs
-
-lay-requires : tie.Need-lay-requires
-lay-requires c κs = search needs
-
-tell-requires : tie.Need-tell-requires
-tell-requires c κs = search needs
-
-returns : tie.Need-returns
-unfolding startProgramData
-returns c = rw (← c .before .before .before .begin-data .ensures, c .before .x .given .1) (refl, refl)
+started-requires : tie.Need-started-requires
+started-requires c κs = search needs
 
 same-length : tie.Need-same-length
 same-length c = search needs
 
-returns-2 : tie.Need-returns-2
+returns : tie.Need-returns
 unfolding startProgramData
-returns-2 c = rw (c .tell .ensures, ← c .before .before .before .before .before .before .before .before .begin-data .ensures, c .before .before .before .before .before .before .at .given .1) (refl, c .before .before .before .lay .ensures)
+returns c =
+    let s = c .before .before .before .before .before .before .before .before .before .before .args .self in
+    rw (c .started .ensures, ← c .before .before .before .before .before .begin-data .ensures s (sym (c .before .before .before .before .before .before .is-ended .ensures)) refl) (refl, c .before .before .before .lay-first .ensures s)
 
 pub program-data-spec : {M : Type 1} → statement M
 program-data-spec =
     tie.close
     (tie.spec
+    is-ended-requires
     begin-data-requires
-    enum-known-x
-    enum-known-at
-    lay-requires
-    tell-requires
-    returns
+    lay-first-requires
+    started-requires
     same-length
-    returns-2)
+    returns)

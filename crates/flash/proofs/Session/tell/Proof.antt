@@ -4,16 +4,14 @@ use Rattle.flash.proofs.Session.tell.Statement.{statement}
 use Rattle.flash.proofs.Session.tell.Tie as tie
 use Rattle.flash.proofs.Session.tell.Reads as reads
 use Rattle.flash.proofs.Session.tell.Lts as lts
-use Rattle.flash.proofs.event_of.Reads as event-of-reads
+use Rattle.flash.proofs.event_at.Reads as event-at-reads
 
--- src/lib.rt:472:20
-event-of-requires : tie.Need-event-of-requires
-event-of-requires c κs = search needs
+event-at-requires : tie.Need-event-at-requires
+event-at-requires c κs = search needs
 
--- src/lib.rt:466:5
 returns : tie.Need-returns
 unfolding told
-returns c = rw (c .event-of .ensures)
+returns c = rw (c .event-at .ensures)
 
 pub tell-spec : {M : Type 1} → statement M
-tell-spec = tie.close (tie.spec event-of-requires returns)
+tell-spec = tie.close (tie.spec event-at-requires returns)

@@ -7,35 +7,28 @@ use Rattle.flash.proofs.polls.poll_on.Lts as lts
 use Rattle.dwords.proofs.byte_at.Reads as byte-at-reads
 use Rattle.flash.proofs.is_flagged.Reads as is-flagged-reads
 use Rattle.flash.proofs.polls.after_polls.Reads as after-polls-reads
-use Rattle.flash.proofs.polls.is_ready.Reads as is-ready-reads
-use Rattle.flash.proofs.polls.still_busy.Reads as still-busy-reads
+use Rattle.phases.proofs.polls.is_ready.Reads as is-ready-reads
+use Rattle.phases.proofs.polls.still_busy.Reads as still-busy-reads
 
--- src/polls.rt:238:17
 is-flagged-requires : tie.Need-is-flagged-requires
 is-flagged-requires c κs = search needs
 
--- src/polls.rt:238:39
 byte-at-requires : tie.Need-byte-at-requires
 byte-at-requires c κs = search needs
 
--- src/polls.rt:238:8
 is-ready-requires : tie.Need-is-ready-requires
 is-ready-requires c κs = search needs
 
--- src/polls.rt:239:9
 after-polls-requires : tie.Need-after-polls-requires
 after-polls-requires c κs = search needs
 
--- src/polls.rt:241:9
 still-busy-requires : tie.Need-still-busy-requires
 still-busy-requires c κs = search needs
 
--- src/polls.rt:235:1
 returns : tie.Need-returns
 unfolding pollOn
 returns c = rw (c .after-polls .ensures, ← c .before .before .before .before .is-flagged .ensures, ← c .before .before .before .byte-at .ensures, ← c .before .before .is-ready .ensures, c .before .if1 .taken)
 
--- src/polls.rt:235:1
 returns-2 : tie.Need-returns-2
 unfolding pollOn
 returns-2 c = rw (c .still-busy .ensures, ← c .before .before .before .before .is-flagged .ensures, ← c .before .before .before .byte-at .ensures, ← c .before .before .is-ready .ensures, c .before .if1 .left)

@@ -6,11 +6,9 @@ use Rattle.flash.proofs.reads.adopted.Reads as reads
 use Rattle.flash.proofs.reads.adopted.Lts as lts
 use Rattle.settings.proofs.Settings.update.Reads as update-reads
 
--- src/reads.rt:75:19
 update-requires : tie.Need-update-requires
 update-requires c κs = search needs
 
--- src/reads.rt:70:1
 returns : tie.Need-returns
 unfolding withTable
 returns c = rw (c .update .ensures)

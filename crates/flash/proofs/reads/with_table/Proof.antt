@@ -7,28 +7,22 @@ use Rattle.flash.proofs.reads.with_table.Lts as lts
 use Rattle.flash.proofs.reads.adopted.Reads as adopted-reads
 use Rattle.flash.proofs.reads.ended.Reads as ended-reads
 
--- src/reads.rt:90:54
 enum-told : tie.Need-enum-told
 enum-told c = search needs
 
--- src/reads.rt:90:42
 ended-requires : tie.Need-ended-requires
 ended-requires c κs = search needs
 
--- src/reads.rt:91:28
 enum-known-t : tie.Need-enum-known-t
 enum-known-t c = search needs
 
--- src/reads.rt:91:34
 adopted-requires : tie.Need-adopted-requires
 adopted-requires c κs = search needs
 
--- src/reads.rt:86:1
 returns : tie.Need-returns
 unfolding withTable
 returns c = rw (c .ended .ensures, c .before .enum-told .given .1)
 
--- src/reads.rt:86:1
 returns-2 : tie.Need-returns-2
 unfolding withTable
 returns-2 c = rw (c .adopted .ensures, c .before .before .t .given .1)

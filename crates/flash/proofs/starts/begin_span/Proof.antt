@@ -7,10 +7,8 @@ use Rattle.flash.proofs.starts.begin_span.Statement.{statement}
 use Rattle.flash.proofs.starts.begin_span.Tie as tie
 use Rattle.flash.proofs.starts.begin_span.Reads as reads
 use Rattle.flash.proofs.starts.begin_span.Lts as lts
-use Rattle.flash.proofs.Session.goes.Reads as goes-reads
-use Rattle.flash.proofs.minus.Reads as minus-reads
-use Rattle.flash.proofs.reads.to_before.Reads as to-before-reads
-use Rattle.flash.proofs.starts.refuse.Reads as refuse-reads
+use Rattle.phases.proofs.minus.Reads as minus-reads
+use Rattle.phases.proofs.reads.to_before.Reads as to-before-reads
 use Rattle.settings.proofs.Settings.check_address_length.Reads as check-address-length-reads
 
 cast-minus : tie.Need-cast-minus
@@ -25,21 +23,20 @@ check-address-length-requires c κs = search needs
 enum-known-report : tie.Need-enum-known-report
 enum-known-report c = search needs
 
-refuse-requires : tie.Need-refuse-requires
-refuse-requires c κs = search needs
-
 enum-told : tie.Need-enum-told
 enum-told c = search needs
 
-refuse-requires-2 : tie.Need-refuse-requires-2
-refuse-requires-2 c κs = search needs
+returns : tie.Need-returns
+returns c s e = rw (e, ← c .before .before .before .before .minus .ensures, check-fits _ _ _ .0 (sym (c .before .before .before .check-address-length .ensures) ∙ c .before .enum-told .given .1), lt-leb _ _ (c .if1 .taken))
 
-sub-t21 : tie.Need-sub-t21
-sub-t21 c = let h = check-fits _ _ _ .0 (sym (c .before .before .before .before .check-address-length .ensures) ∙ c .before .before .enum-told .given .1) in
+sub-t17 : tie.Need-sub-t17
+sub-t17 c =
+    let h = check-fits _ _ _ .0 (sym (c .before .before .before .before .check-address-length .ensures) ∙ c .before .before .enum-told .given .1) in
     omega (arith, accepted-nonempty _ _ _ h, c .before .before .before .before .before .minus .ensures)
 
-cast-t22 : tie.Need-cast-t22
-cast-t22 c = let h = check-fits _ _ _ .0 (sym (c .before .before .before .before .check-address-length .ensures) ∙ c .before .before .enum-told .given .1) in
+cast-t18 : tie.Need-cast-t18
+cast-t18 c =
+    let h = check-fits _ _ _ .0 (sym (c .before .before .before .before .check-address-length .ensures) ∙ c .before .before .enum-told .given .1) in
     omega (arith, accepted-nonempty _ _ _ h, accepted-32 _ _ _ h, c .before .before .before .before .before .minus .ensures)
 
 cast-minus-2 : tie.Need-cast-minus-2
@@ -51,18 +48,13 @@ minus-requires-2 c κs = search needs
 to-before-requires : tie.Need-to-before-requires
 to-before-requires c κs = search needs
 
-goes-requires : tie.Need-goes-requires
-goes-requires c κs = search needs
-
-returns : tie.Need-returns
-returns c = let h = check-reports _ _ _ _ (sym (c .before .before .before .before .check-address-length .ensures) ∙ c .before .before .report .given .1) in
-    rw (c .refuse .ensures, ← c .before .before .before .before .before .minus .ensures, h .0, ← h .1)
-
 returns-2 : tie.Need-returns-2
-returns-2 c = rw (c .refuse2 .ensures, ← c .before .before .before .before .before .minus .ensures, check-fits _ _ _ .0 (sym (c .before .before .before .before .check-address-length .ensures) ∙ c .before .before .enum-told .given .1), lt-leb _ _ (c .before .if1 .taken))
+returns-2 c s e =
+    let h = check-reports _ _ _ _ (sym (c .before .before .before .check-address-length .ensures) ∙ c .before .report .given .1) in
+    rw (e, ← c .before .before .before .before .minus .ensures, h .0, ← h .1)
 
 returns-3 : tie.Need-returns-3
-returns-3 c = rw (c .goes .ensures, c .before .to-before .ensures, c .before .before .minus2 .ensures, ← c .before .before .before .before .before .before .before .before .before .minus .ensures, check-fits _ _ _ .0 (sym (c .before .before .before .before .before .before .before .before .check-address-length .ensures) ∙ c .before .before .before .before .before .before .enum-told .given .1), le-leb _ _ (c .before .before .before .before .before .if1 .left))
+returns-3 c s e = rw (c .to-before .ensures, c .before .minus2 .ensures, e, ← c .before .before .before .before .before .before .before .before .minus .ensures, check-fits _ _ _ .0 (sym (c .before .before .before .before .before .before .before .check-address-length .ensures) ∙ c .before .before .before .before .before .enum-told .given .1), le-leb _ _ (c .before .before .before .before .if1 .left))
 
 pub begin-span-spec : {M : Type 1} → statement M
 begin-span-spec =
@@ -72,15 +64,12 @@ begin-span-spec =
     minus-requires
     check-address-length-requires
     enum-known-report
-    refuse-requires
     enum-told
-    refuse-requires-2
-    sub-t21
-    cast-t22
+    returns
+    sub-t17
+    cast-t18
     cast-minus-2
     minus-requires-2
     to-before-requires
-    goes-requires
-    returns
     returns-2
     returns-3)

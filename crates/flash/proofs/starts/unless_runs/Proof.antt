@@ -4,7 +4,7 @@ use Rattle.flash.proofs.starts.unless_runs.Statement.{statement}
 use Rattle.flash.proofs.starts.unless_runs.Tie as tie
 use Rattle.flash.proofs.starts.unless_runs.Reads as reads
 use Rattle.flash.proofs.starts.unless_runs.Lts as lts
-use Rattle.flash.proofs.ends.is_ended.Reads as is-ended-reads
+use Rattle.phases.proofs.ends.is_ended.Reads as is-ended-reads
 use Rattle.flash.proofs.starts.refuse.Reads as refuse-reads
 
 is-ended-requires : tie.Need-is-ended-requires

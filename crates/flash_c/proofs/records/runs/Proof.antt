@@ -1,6 +1,6 @@
-use Rattle.flash.specs.declared.Phase.the-variants as Phase-variants
-use Rattle.flash.proofs.Phase as Phase-enum
-use Rattle.flash.specs.Steps.{isEnded}
+use Rattle.phases.specs.declared.Phase.the-variants as Phase-variants
+use Rattle.phases.proofs.Phase as Phase-enum
+use Rattle.phases.specs.Moves.{isEnded}
 use Prim.Native.Nat.{ℕ}
 use mathlib.Core.Bool.{Bool}
 use denote.Enum.Declared.{tagOf}
