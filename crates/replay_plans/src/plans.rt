@@ -6,51 +6,13 @@ use erase_plan::EraseEntry;
 use erase_plan::EraseType;
 use erase_plan::EraseTypes;
 use erase_plan::Next;
+use tallies::SAME;
+use tallies::UNLISTED;
 
-pub struct Totals {
-    pub same: u64,
-    pub p1: u64,
-    pub panics: u64,
-    pub differ: u64,
-    pub seen: u64,
-    pub first: u64,
-}
+pub const P1: u8 = 1;
 
-pub enum Class {
-    Same,
-    OneByte,
-    Panics,
-    Unlisted,
-}
-
-fn more(n: u64) -> u64 {
-    std::num::wrapping_add_u64(n, 1)
-}
-
-impl Totals {
-    fn add(self, c: Class) -> Totals {
-        let mut t = self;
-        t.seen = more(t.seen);
-        match c {
-            Class::Same => {
-                t.same = more(t.same);
-            }
-            Class::OneByte => {
-                t.p1 = more(t.p1);
-            }
-            Class::Panics => {
-                t.panics = more(t.panics);
-            }
-            Class::Unlisted => {
-                t.differ = more(t.differ);
-                if t.first == 0 {
-                    t.first = t.seen;
-                }
-            }
-        }
-        t
-    }
-}
+// Refused as a range.
+pub const PANICS: u8 = 2;
 
 // Type i, from 0; one past the record's number of types has size 0.
 fn type_at(s: &[u8], i: u8) -> EraseType {
@@ -141,7 +103,7 @@ fn has_one_byte(s: &[u8]) -> bool {
 }
 
 // A range that ends at 2^32 or below.
-fn compared(s: &[u8], at: u32, length: u64) -> Class {
+fn compared(s: &[u8], at: u32, length: u64) -> u8 {
     let low = (length % 0x1_0000_0000) as u32;
     let last = std::num::wrapping_sub_u32(std::num::wrapping_add_u32(at, low), 1);
     let w = if length == 0 {
@@ -155,70 +117,24 @@ fn compared(s: &[u8], at: u32, length: u64) -> Class {
         walked(s, types_of(s), at, last)
     };
     if w.same & (w.going == false) & (w.count == byte_at(s, 1)) {
-        Class::Same
+        SAME
     } else if has_one_byte(s) & (w.count == byte_at(s, 1)) {
-        Class::OneByte
+        P1
     } else {
-        Class::Unlisted
+        UNLISTED
     }
 }
 
-fn class_of(s: &[u8]) -> Class {
+pub fn class_of(s: &[u8]) -> u8 {
     let at = number_at(s, 4);
     let length = ranges::number64(s, 8, 12);
     if 0x1_0000_0000 - (at as u64) < length {
         if byte_at(s, 2) == 255 {
-            Class::Panics
+            PANICS
         } else {
-            Class::Unlisted
+            UNLISTED
         }
     } else {
         compared(s, at, length)
     }
-}
-
-fn replay(s: &[u8], t: Totals) -> Totals {
-    let mut now = t;
-    let mut at: usize = 0;
-    while 256 <= s.len() - at {
-        now = now.add(class_of(&s[at..at + 256]));
-        at += 256;
-    }
-    now
-}
-
-pub struct Read {
-    pub totals: Totals,
-    pub more: bool,
-}
-
-fn some(fd: i32, t: Totals) -> Read {
-    let mut buf = io::large_buffer();
-    let n = io::read_full(fd, &mut buf);
-    Read {
-        totals: replay(&buf[..n], t),
-        more: n == 65536,
-    }
-}
-
-pub fn all(fd: i32) -> Totals {
-    let mut t = Totals {
-        same: 0,
-        p1: 0,
-        panics: 0,
-        differ: 0,
-        seen: 0,
-        first: 0,
-    };
-    let mut turns: u32 = 65536;
-    while turns > 0 {
-        let r = some(fd, t);
-        t = r.totals;
-        if r.more {
-            turns -= 1;
-        } else {
-            turns = 0;
-        }
-    }
-    t
 }

@@ -7,8 +7,9 @@ use dwords::byte_at;
 use dwords::number_at;
 use flash::Session;
 use settings::RangeCheck;
-
-pub const SAME: u8 = 0;
+use tallies::SAME;
+use tallies::UNLISTED;
+use tallies::WRONG;
 
 pub const R1: u8 = 1;
 
@@ -51,10 +52,6 @@ pub const S4: u8 = 19;
 pub const S5: u8 = 20;
 
 pub const S7: u8 = 21;
-
-pub const UNLISTED: u8 = 22;
-// Not what document 01's rules in tools/oracle give.
-pub const WRONG: u8 = 23;
 
 const STUCK: u8 = 254;
 

@@ -11,6 +11,11 @@ mod wire;
 ghost use mathlib.Core.Path.{_≡_};
 ghost use lib.ListN.{length};
 use libc::STDOUT_FILENO;
+use tallies::Next;
+use tallies::SAME;
+use tallies::Totals;
+use tallies::WRONG;
+use tallies::line;
 
 // A reply may be a byte longer than the room.
 fn reply_buffer() -> [u8; 4352]
@@ -30,87 +35,23 @@ fn class_of(s: &[u8]) -> u8 {
     classes::class_of(s, play::outcome(s, before, p, &work))
 }
 
-// Records by class; how many there were so far, and the number of the first that is on no list or wrong.
-pub struct Totals {
-    pub by_class: [u64; 32],
-    pub seen: u64,
-    pub first: u64,
-}
-
-fn none() -> Totals {
-    Totals {
-        by_class: [0; 32],
-        seen: 0,
-        first: 0,
+fn next(fd: i32) -> Next {
+    let mut s = [0u8; 256];
+    if io::read_full(fd, &mut s) == 256 {
+        Next::Record(class_of(&s))
+    } else {
+        Next::Nothing
     }
 }
 
-fn more(n: u64) -> u64 {
-    std::num::wrapping_add_u64(n, 1)
-}
-
-impl Totals {
-    fn add(self, class: u8) -> Totals {
-        let mut t = self;
-        let i = (class % 32) as usize;
-        t.by_class[i] = more(t.by_class[i]);
-        t.seen = more(t.seen);
-        if (classes::UNLISTED <= class) & (t.first == 0) {
-            t.first = t.seen;
-        }
-        t
-    }
-
-    fn of(self, class: u8) -> u64 {
-        let i = (class % 32) as usize;
-        self.by_class[i]
-    }
-}
-
-fn replay(s: &[u8], t: Totals) -> Totals {
-    let mut now = t;
-    let mut at: usize = 0;
-    while 256 <= s.len() - at {
-        now = now.add(class_of(&s[at..at + 256]));
-        at += 256;
-    }
-    now
-}
-
-pub struct Read {
-    pub totals: Totals,
-    pub more: bool,
-}
-
-fn some(fd: i32, t: Totals) -> Read {
-    let mut buf = io::large_buffer();
-    let n = io::read_full(fd, &mut buf);
-    Read {
-        totals: replay(&buf[..n], t),
-        more: n == 65536,
-    }
-}
-
-// A proved loop has to end, and nothing says that a file does: the turns are counted down.
+// Reads the list to its end and closes it.
 fn all(fd: i32) -> Totals {
-    let mut t = none();
-    let mut turns: u32 = 65536;
-    while turns > 0 {
-        let r = some(fd, t);
-        t = r.totals;
-        if r.more {
-            turns -= 1;
-        } else {
-            turns = 0;
-        }
+    let mut t = tallies::none();
+    while 0 < t.left {
+        t = t.then(next(fd));
     }
+    libc::close(fd);
     t
-}
-
-fn line(text: &[u8], n: u64) {
-    io::write_all(STDOUT_FILENO, text);
-    io::print_decimal(STDOUT_FILENO, n);
-    io::write_all(STDOUT_FILENO, b"\n");
 }
 
 fn show_commands(t: Totals) {
@@ -210,27 +151,21 @@ fn show_sfdp(t: Totals) {
 }
 
 fn main() {
-    let path = b"runs.bin";
-    let fd = os::open_read(path);
+    let fd = tallies::open(b"runs.bin");
     if fd < 0 {
-        os::fail(path);
         return;
     }
     let t = all(fd);
-    libc::close(fd);
     io::write_all(STDOUT_FILENO, b"The Rust's commands, runs.bin\n");
     line(
         b"agree in answer, transactions, polls, bytes and settings: ",
-        t.of(classes::SAME),
+        t.of(SAME),
     );
     show_commands(t);
     show_replies(t);
     show_ranges(t);
     show_sfdp(t);
-    line(b"differ and are on no list: ", t.of(classes::UNLISTED));
-    line(
-        b"ours is not what document 01's rules give: ",
-        t.of(classes::WRONG),
-    );
-    line(b"number of the first of those, 0 for none: ", t.first);
+    tallies::show_unlisted(t);
+    line(b"ours is not what document 01's rules give: ", t.of(WRONG));
+    tallies::show_first(t);
 }

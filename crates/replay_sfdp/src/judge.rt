@@ -3,98 +3,25 @@ use crate::fields;
 use dwords::byte_at;
 use dwords::dword_at;
 use sfdp::ReadArea;
+use tallies::SAME;
+use tallies::UNLISTED;
 
-pub enum Class {
-    Same,
-    Density,
-    Exponent,
-    ShortFive,
-    ShortSix,
-    Protocol,
-    Volatility,
-    Tie,
-    VolatilityAndTie,
-    Unlisted,
-}
+pub const S1: u8 = 1;
 
-pub struct Totals {
-    pub same: u64,
-    pub s1: u64,
-    pub s2: u64,
-    pub s3: u64,
-    pub s4: u64,
-    pub s5: u64,
-    pub s6: u64,
-    pub s7: u64,
-    pub both: u64,
-    pub differ: u64,
-    pub seen: u64,
-    pub first: u64,
-}
+pub const S2: u8 = 2;
 
-pub fn none() -> Totals {
-    Totals {
-        same: 0,
-        s1: 0,
-        s2: 0,
-        s3: 0,
-        s4: 0,
-        s5: 0,
-        s6: 0,
-        s7: 0,
-        both: 0,
-        differ: 0,
-        seen: 0,
-        first: 0,
-    }
-}
+pub const S3: u8 = 3;
 
-fn more(n: u64) -> u64 {
-    std::num::wrapping_add_u64(n, 1)
-}
+pub const S4: u8 = 4;
 
-impl Totals {
-    pub fn add(self, c: Class) -> Totals {
-        let mut t = self;
-        t.seen = more(t.seen);
-        match c {
-            Class::Same => {
-                t.same = more(t.same);
-            }
-            Class::Density => {
-                t.s1 = more(t.s1);
-            }
-            Class::Exponent => {
-                t.s2 = more(t.s2);
-            }
-            Class::ShortFive => {
-                t.s3 = more(t.s3);
-            }
-            Class::ShortSix => {
-                t.s4 = more(t.s4);
-            }
-            Class::Protocol => {
-                t.s5 = more(t.s5);
-            }
-            Class::Volatility => {
-                t.s6 = more(t.s6);
-            }
-            Class::Tie => {
-                t.s7 = more(t.s7);
-            }
-            Class::VolatilityAndTie => {
-                t.both = more(t.both);
-            }
-            Class::Unlisted => {
-                t.differ = more(t.differ);
-                if t.first == 0 {
-                    t.first = t.seen;
-                }
-            }
-        }
-        t
-    }
-}
+pub const S5: u8 = 5;
+
+pub const S6: u8 = 6;
+
+pub const S7: u8 = 7;
+
+// S6 and S7.
+pub const BOTH: u8 = 8;
 
 // The number that the Rust's outcome has in a record: None stands for 12, 255 for a panic.
 fn rust_number(verdict: u8) -> u8 {
@@ -121,62 +48,62 @@ fn short_table(area: &[u8]) -> bool {
 }
 
 // A panic of the Rust: too large an exponent that we refuse by 4, or a short table of minor 5 that we accept.
-fn panicked(area: &[u8], ours: u8) -> Class {
+fn panicked(area: &[u8], ours: u8) -> u8 {
     let d2 = dword_at(table(area), 2);
     if ours == 0 {
         if short_table(area) {
             if byte_at(area, 9) == 5 {
-                return Class::ShortFive;
+                return S3;
             }
         }
-        return Class::Unlisted;
+        return UNLISTED;
     }
     if ours == 4 {
         if 0x8000_0040 <= d2 {
-            return Class::Density;
+            return S1;
         }
-        return Class::Exponent;
+        return S2;
     }
-    Class::Unlisted
+    UNLISTED
 }
 
 // The Rust refuses what we accept.
-fn refused(area: &[u8], rust: u8, ours: u8) -> Class {
+fn refused(area: &[u8], rust: u8, ours: u8) -> u8 {
     if rust == 12 {
         if byte_at(area, 7) == 255 {
-            return Class::Unlisted;
+            return UNLISTED;
         }
-        return Class::Protocol;
+        return S5;
     }
     if rust == 4 {
         if ours == 0 {
             if short_table(area) {
                 if 6 <= byte_at(area, 9) {
-                    return Class::ShortSix;
+                    return S4;
                 }
             }
         }
     }
-    Class::Unlisted
+    UNLISTED
 }
 
 // Both give parameters.
-fn compared(vol: bool, tie: bool, rest: bool) -> Class {
+fn compared(vol: bool, tie: bool, rest: bool) -> u8 {
     if rest {
         if vol {
-            if tie { Class::Same } else { Class::Tie }
+            if tie { SAME } else { S7 }
         } else if tie {
-            Class::Volatility
+            S6
         } else {
-            Class::VolatilityAndTie
+            BOTH
         }
     } else {
-        Class::Unlisted
+        UNLISTED
     }
 }
 
 // area: an SFDP area; want: the 128 bytes that a record says of it.
-pub fn class_of(area: &[u8], want: &[u8]) -> Class {
+fn class_of_area(area: &[u8], want: &[u8]) -> u8 {
     let read = sfdp::read_area(area);
     let ours = read.number();
     let rust = rust_number(byte_at(want, 0));
@@ -190,9 +117,18 @@ pub fn class_of(area: &[u8], want: &[u8]) -> Class {
                 fields::same_sector(p, want),
                 fields::same(p, want),
             ),
-            _ => Class::Same,
+            _ => SAME,
         }
     } else {
         refused(area, rust, ours)
     }
+}
+
+// A record: an area, and 128 bytes that say what it holds.
+pub fn class_of(s: &[u8]) -> u8 {
+    if s.len() < 128 {
+        return UNLISTED;
+    }
+    let n = s.len() - 128;
+    class_of_area(&s[0..n], &s[n..])
 }

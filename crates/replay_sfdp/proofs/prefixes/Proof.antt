@@ -3,9 +3,6 @@ use lib.ListN.{length}
 use borrow.Author.Needs.{needs}
 use Rattle.replay_sfdp.proofs.prefixes.Statement.{statement}
 use Rattle.replay_sfdp.proofs.prefixes.Tie as tie
-use Rattle.replay_sfdp.proofs.prefixes.Reads as reads
-use Rattle.replay_sfdp.proofs.prefixes.Lts as lts
-use Rattle.replay_sfdp.proofs.add_answer.Reads as add-answer-reads
 
 abbrev Inv-loop : tie.InvT-loop
 Inv-loop s t₀ n₀ t n = n ≤ length s
@@ -13,43 +10,42 @@ Inv-loop s t₀ n₀ t n = n ≤ length s
 abbrev μ-loop : tie.MeasureT-loop
 μ-loop s t₀ n₀ t n = length s - n
 
--- src/main.rt:106:5
+none-requires : tie.Need-none-requires Inv-loop μ-loop
+none-requires c κs = search needs
+
 loop-holds : tie.Need-loop-holds Inv-loop μ-loop
 loop-holds c = search needs
 
--- src/main.rt:107:27
-sub-add-answer : tie.Need-sub-add-answer Inv-loop μ-loop
-sub-add-answer c = search needs
+sub-answer : tie.Need-sub-answer Inv-loop μ-loop
+sub-answer c = search needs
 
--- src/main.rt:107:27
-part-add-answer-start : tie.Need-part-add-answer-start Inv-loop μ-loop
-part-add-answer-start c = search needs
+part-answer-start : tie.Need-part-answer-start Inv-loop μ-loop
+part-answer-start c = search needs
 
--- src/main.rt:107:27
-part-add-answer-end : tie.Need-part-add-answer-end Inv-loop μ-loop
-part-add-answer-end c = search needs
+part-answer-end : tie.Need-part-answer-end Inv-loop μ-loop
+part-answer-end c = search needs
 
--- src/main.rt:107:9
-add-answer-requires : tie.Need-add-answer-requires Inv-loop μ-loop
-add-answer-requires c κs = search needs
+answer-requires : tie.Need-answer-requires Inv-loop μ-loop
+answer-requires c κs = search needs
 
--- src/main.rt:108:9
+add-requires : tie.Need-add-requires Inv-loop μ-loop
+add-requires c κs = search needs
+
 add-n : tie.Need-add-n Inv-loop μ-loop
 add-n c = search needs
 
--- src/main.rt:106:5
 loop-less : tie.Need-loop-less Inv-loop μ-loop
 loop-less c = search needs
 
--- src/main.rt:106:5
 loop-again : tie.Need-loop-again Inv-loop μ-loop
 loop-again c = search needs
 
--- src/main.rt:110:5
-add-answer-requires-2 : tie.Need-add-answer-requires-2 Inv-loop μ-loop
-add-answer-requires-2 c κs = search needs
+answer-requires-2 : tie.Need-answer-requires-2 Inv-loop μ-loop
+answer-requires-2 c κs = search needs
 
--- src/main.rt:98:1
+add-requires-2 : tie.Need-add-requires-2 Inv-loop μ-loop
+add-requires-2 c κs = search needs
+
 returns : tie.Need-returns Inv-loop μ-loop
 returns c = search needs
 
@@ -59,13 +55,16 @@ prefixes-spec =
     (tie.spec
     Inv-loop
     μ-loop
+    none-requires
     loop-holds
-    sub-add-answer
-    part-add-answer-start
-    part-add-answer-end
-    add-answer-requires
+    sub-answer
+    part-answer-start
+    part-answer-end
+    answer-requires
+    add-requires
     add-n
     loop-less
     loop-again
-    add-answer-requires-2
+    answer-requires-2
+    add-requires-2
     returns)
