@@ -1,5 +1,4 @@
 // What tools/bench calls: a command run step by step, with all that was sent folded into one number. For the benchmark alone.
-ghost use Prim.Native.Nat.{_≤_};
 use flash::Event;
 use flash::Session;
 use flash::Stepped;
@@ -43,15 +42,13 @@ fn fold_sent(t: Transaction, work: &[u8]) -> u64 {
     )
 }
 
-fn least(n: u64, most: usize) -> usize
-    ensures { λ r. ⌜ r ≤ most ⌝ }
-{
-    if n <= most as u64 { n as usize } else { most }
+// Where a reply starts in the bytes of the part: a poll is answered by the first, a read by those after it.
+fn first(poll: bool) -> u32 {
+    if poll { 0 } else { 1 }
 }
 
 // The host: it sends what the events say, and gives back the reply of an erased part that is always ready.
-fn run(x: Stepped, erased: &[u8], work: &mut [u8]) -> u64 {
-    let ready = [0u8; 1];
+fn run(x: Stepped, part: &[u8], work: &mut [u8]) -> u64 {
     let mut now = x;
     let mut folded: u64 = 0;
     let mut turns: u64 = 100_000;
@@ -66,12 +63,8 @@ fn run(x: Stepped, erased: &[u8], work: &mut [u8]) -> u64 {
             Event::Send(t) => {
                 folded = sum(folded, fold_sent(t, work));
                 turns -= 1;
-                if t.poll {
-                    now = s.step(false, &ready, work);
-                    continue;
-                }
-                let n = least(t.reply, erased.len());
-                now = s.step(false, &erased[0..n], work);
+                let reply = room::payload(part, first(t.poll), t.reply);
+                now = s.step(false, reply, work);
             }
         }
     }
@@ -84,6 +77,7 @@ pub extern "C" fn mg_bench_program(address: u32, data: &[u8], work: &mut [u8]) -
     let sized = Session::new().set_erase_size(4096).session;
     let s = sized.set_capacity(65_536).session;
     let x = s.program(address, data, false, work);
-    let erased = [0xFFu8; 4096];
-    run(x, &erased, work)
+    let mut part = [0xFFu8; 4097];
+    part[0] = 0;
+    run(x, &part, work)
 }

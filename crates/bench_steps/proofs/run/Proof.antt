@@ -5,102 +5,79 @@ use Rattle.bench_steps.proofs.run.Statement.{statement}
 use Rattle.bench_steps.proofs.run.Tie as tie
 use Rattle.bench_steps.proofs.run.Reads as reads
 use Rattle.bench_steps.proofs.run.Lts as lts
+use Rattle.bench_steps.proofs.first.Reads as first-reads
 use Rattle.bench_steps.proofs.fold_sent.Reads as fold-sent-reads
-use Rattle.bench_steps.proofs.least.Reads as least-reads
 use Rattle.bench_steps.proofs.sum.Reads as sum-reads
 use Rattle.flash.proofs.Session.step.Reads as step-reads
+use Rattle.room.proofs.payload.Reads as payload-reads
 
 abbrev Inv-loop : tie.InvT-loop
-Inv-loop erased work₀ ready now₀ folded₀ turns₀ work now folded turns = length work ≡ length work₀
+Inv-loop part work₀ now₀ folded₀ turns₀ work now folded turns = length work ≡ length work₀
 
 abbrev μ-loop : tie.MeasureT-loop
-μ-loop erased work₀ ready now₀ folded₀ turns₀ work now folded turns = turns
+μ-loop part work₀ now₀ folded₀ turns₀ work now folded turns = turns
 
--- src/lib.rt:58:5
+-- src/lib.rt:55:5
 loop-holds : tie.Need-loop-holds Inv-loop μ-loop
 loop-holds c = search needs
 
--- src/lib.rt:62:32
+-- src/lib.rt:59:32
 enum-known-e : tie.Need-enum-known-e Inv-loop μ-loop
 enum-known-e c = search needs
 
--- src/lib.rt:63:17
+-- src/lib.rt:60:17
 sum-requires : tie.Need-sum-requires Inv-loop μ-loop
 sum-requires c κs = search needs
 
--- src/lib.rt:58:5
+-- src/lib.rt:55:5
 loop-less : tie.Need-loop-less Inv-loop μ-loop
 loop-less c = search needs
 
--- src/lib.rt:58:5
+-- src/lib.rt:55:5
 loop-again : tie.Need-loop-again Inv-loop μ-loop
 loop-again c = search needs
 
--- src/lib.rt:66:25
+-- src/lib.rt:63:25
 enum-known-e-2 : tie.Need-enum-known-e-2 Inv-loop μ-loop
 enum-known-e-2 c = search needs
 
--- src/lib.rt:67:38
+-- src/lib.rt:64:38
 fold-sent-requires : tie.Need-fold-sent-requires Inv-loop μ-loop
 fold-sent-requires c κs = search needs
 
--- src/lib.rt:67:17
+-- src/lib.rt:64:17
 sum-requires-2 : tie.Need-sum-requires-2 Inv-loop μ-loop
 sum-requires-2 c κs = search needs
 
--- src/lib.rt:68:17
+-- src/lib.rt:65:17
 sub-turns : tie.Need-sub-turns Inv-loop μ-loop
 sub-turns c = search needs
 
--- src/lib.rt:70:41
-slice-aggregate-step : tie.Need-slice-aggregate-step Inv-loop μ-loop
-slice-aggregate-step c = search needs
+-- src/lib.rt:66:49
+first-requires : tie.Need-first-requires Inv-loop μ-loop
+first-requires c κs = search needs
 
--- src/lib.rt:70:21
+-- src/lib.rt:66:21
+payload-requires : tie.Need-payload-requires Inv-loop μ-loop
+payload-requires c κs = search needs
+
+-- src/lib.rt:67:17
 step-requires : tie.Need-step-requires Inv-loop μ-loop
 step-requires c κs = search needs
 
--- src/lib.rt:58:5
+-- src/lib.rt:55:5
 loop-less-2 : tie.Need-loop-less-2 Inv-loop μ-loop
 loop-less-2 c = search needs
 
--- src/lib.rt:58:5
+-- src/lib.rt:55:5
 loop-again-2 : tie.Need-loop-again-2 Inv-loop μ-loop
 loop-again-2 c = search needs
 
--- src/lib.rt:73:21
-least-requires : tie.Need-least-requires Inv-loop μ-loop
-least-requires c κs = search needs
-
--- src/lib.rt:74:37
-sub-step : tie.Need-sub-step Inv-loop μ-loop
-sub-step c = search needs
-
--- src/lib.rt:74:37
-part-step-start : tie.Need-part-step-start Inv-loop μ-loop
-part-step-start c = search needs
-
--- src/lib.rt:74:37
-part-step-end : tie.Need-part-step-end Inv-loop μ-loop
-part-step-end c = search needs
-
--- src/lib.rt:74:17
-step-requires-2 : tie.Need-step-requires-2 Inv-loop μ-loop
-step-requires-2 c κs = search needs
-
--- src/lib.rt:58:5
-loop-less-3 : tie.Need-loop-less-3 Inv-loop μ-loop
-loop-less-3 c = search needs
-
--- src/lib.rt:58:5
-loop-again-3 : tie.Need-loop-again-3 Inv-loop μ-loop
-loop-again-3 c = search needs
-
--- src/lib.rt:53:1
+-- src/lib.rt:51:1
 same-length : tie.Need-same-length Inv-loop μ-loop
 same-length c = search needs
 
--- src/lib.rt:53:1
+-- src/lib.rt:51:1
 returns : tie.Need-returns Inv-loop μ-loop
 returns c = search needs
 
@@ -119,16 +96,10 @@ run-spec =
     fold-sent-requires
     sum-requires-2
     sub-turns
-    slice-aggregate-step
+    first-requires
+    payload-requires
     step-requires
     loop-less-2
     loop-again-2
-    least-requires
-    sub-step
-    part-step-start
-    part-step-end
-    step-requires-2
-    loop-less-3
-    loop-again-3
     same-length
     returns)
