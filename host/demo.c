@@ -6,7 +6,7 @@
 #include <stdio.h>
 #include <string.h>
 
-#include "flash_host.h"
+#include "moss_flash_host.h"
 #include "sim_part.h"
 
 #define CAPACITY 1048576u
@@ -22,7 +22,7 @@ static uint8_t work[BLOCK_SIZE];
 static uint8_t reply[BLOCK_SIZE];
 
 static struct sim_part part;
-static struct flash_host host;
+static struct moss_flash_host host;
 static int shows = 1;      /* whether transactions are printed */
 static int programs;       /* whether the command is a program */
 static int wrote;          /* whether it has written yet */
@@ -45,8 +45,8 @@ static const char *read_meaning(void)
 
 static const char *meaning(const uint8_t *event)
 {
-    wrote |= flash_event_head(event)[0] == 0x02;
-    switch (flash_event_head(event)[0]) {
+    wrote |= moss_flash_event_head(event)[0] == 0x02;
+    switch (moss_flash_event_head(event)[0]) {
     case 0x02: return "write a page, or a part of one";
     case 0x05: return "read the status";
     case 0x06: return "allow one erase or write";
@@ -99,8 +99,8 @@ static void show_number(uint64_t n, int width)
 
 static void show_one(const uint8_t *event, int failed)
 {
-    const uint8_t *head = flash_event_head(event);
-    unsigned length = flash_event_head_length(event);
+    const uint8_t *head = moss_flash_event_head(event);
+    unsigned length = moss_flash_event_head_length(event);
     char bytes[24] = "";
     char address[8] = "";
     unsigned i;
@@ -110,21 +110,21 @@ static void show_one(const uint8_t *event, int failed)
     if (length >= 4)
         sprintf(address, "%06X", head[1] * 65536u + head[2] * 256u + head[3]);
     printf("  %-9u  %-17.17s  %7s", number, bytes, address);
-    show_number(flash_event_payload_length(event), 7);
-    show_number(flash_event_reply(event), 5);
-    show_number(flash_event_delay(event), 8);
+    show_number(moss_flash_event_payload_length(event), 7);
+    show_number(moss_flash_event_reply(event), 5);
+    show_number(moss_flash_event_delay(event), 8);
     printf("  %s%s\n", meaning(event), failed ? " (failed)" : "");
 }
 
 static void watch(void *context, const uint8_t *event, int failed)
 {
     (void)context;
-    if (!flash_event_is_poll(event) && shows)
+    if (!moss_flash_event_is_poll(event) && shows)
         show_polls();
     number++;
     if (!shows)
         return;
-    if (flash_event_is_poll(event))
+    if (moss_flash_event_is_poll(event))
         polls++;
     else
         show_one(event, failed);
@@ -134,8 +134,8 @@ static void table_end(uint8_t answer)
 {
     show_polls();
     rule();
-    printf("  answer %u, %s; %llu polls\n\n", answer, flash_host_answer_name(answer),
-           (unsigned long long)flash_event_polls(host.event));
+    printf("  answer %u, %s; %llu polls\n\n", answer, moss_flash_host_answer_name(answer),
+           (unsigned long long)moss_flash_event_polls(host.event));
 }
 
 /* The simulated part needs no time. */
@@ -163,7 +163,7 @@ static void set_up(void)
     host.context = &part;
     host.reply = reply;
     host.reply_room = sizeof reply;
-    expect(flash_host_init(&host) == FLASH_DONE, "a fresh session of 256 bytes");
+    expect(moss_flash_host_init(&host) == MOSS_FLASH_DONE, "a fresh session of 256 bytes");
 }
 
 static void identify(void)
@@ -172,27 +172,27 @@ static void identify(void)
 
     printf("\n1. Who is there?\n");
     table_head();
-    answer = flash_host_read_jedec_id(&host);
+    answer = moss_flash_host_read_jedec_id(&host);
     table_end(answer);
-    printf("  manufacturer %02X in bank %u, device %04X\n", flash_event_manufacturer(host.event),
-           flash_event_bank(host.event), flash_event_device(host.event));
-    expect(answer == FLASH_DONE && flash_event_manufacturer(host.event) == 0xEF, "the ID is the part's");
+    printf("  manufacturer %02X in bank %u, device %04X\n", moss_flash_event_manufacturer(host.event),
+           moss_flash_event_bank(host.event), moss_flash_event_device(host.event));
+    expect(answer == MOSS_FLASH_DONE && moss_flash_event_manufacturer(host.event) == 0xEF, "the ID is the part's");
 }
 
 static void learn(void)
 {
-    uint8_t s[FLASH_SETTINGS_SIZE] = {0};
+    uint8_t s[MOSS_FLASH_SETTINGS_SIZE] = {0};
     uint8_t answer;
 
     printf("\n2. What can it do? (the part's SFDP area)\n");
     table_head();
-    answer = flash_host_read_params(&host, work, sizeof work);
+    answer = moss_flash_host_read_params(&host, work, sizeof work);
     table_end(answer);
-    flash_settings(host.session, sizeof host.session, s, sizeof s);
+    moss_flash_settings(host.session, sizeof host.session, s, sizeof s);
     printf("  %u address bytes, capacity %llu, pages of %u, erase size %u by opcode %02X\n",
-           flash_settings_address_bytes(s), (unsigned long long)flash_settings_capacity(s), flash_settings_page_size(s),
-           flash_settings_erase_size(s), flash_settings_erase_opcode(s));
-    expect(answer == FLASH_DONE && flash_settings_capacity(s) == CAPACITY, "the settings are the part's");
+           moss_flash_settings_address_bytes(s), (unsigned long long)moss_flash_settings_capacity(s), moss_flash_settings_page_size(s),
+           moss_flash_settings_erase_size(s), moss_flash_settings_erase_opcode(s));
+    expect(answer == MOSS_FLASH_DONE && moss_flash_settings_capacity(s) == CAPACITY, "the settings are the part's");
 }
 
 static void write_beside_seeds(void)
@@ -203,11 +203,11 @@ static void write_beside_seeds(void)
     printf("\n3. New settings, 48 bytes at 003200. The same 4 KiB block holds 256 bytes of seeds at 003000.\n");
     table_head();
     programs = 1;
-    answer = flash_host_program(&host, SETTINGS, data, sizeof data, 1, work, sizeof work);
+    answer = moss_flash_host_program(&host, SETTINGS, data, sizeof data, 1, work, sizeof work);
     programs = 0;
     table_end(answer);
     memcpy(expected + SETTINGS, data, sizeof data);
-    expect(answer == FLASH_DONE, "written, and read back equal");
+    expect(answer == MOSS_FLASH_DONE, "written, and read back equal");
     expect(!memcmp(memory + BLOCK, expected + BLOCK, SEEDS), "the seeds survived");
     expect(!memcmp(memory, expected, sizeof memory), "no other byte of the part changed");
 }
@@ -219,10 +219,10 @@ static void read_back(void)
 
     printf("\n4. What is there now?\n");
     table_head();
-    answer = flash_host_read(&host, SETTINGS, text, SETTINGS_SIZE);
+    answer = moss_flash_host_read(&host, SETTINGS, text, SETTINGS_SIZE);
     table_end(answer);
     printf("  \"%s\"\n", (const char *)text);
-    expect(answer == FLASH_DONE && !memcmp(text, expected + SETTINGS, SETTINGS_SIZE), "what was written");
+    expect(answer == MOSS_FLASH_DONE && !memcmp(text, expected + SETTINGS, SETTINGS_SIZE), "what was written");
 }
 
 static void hang(void)
@@ -231,15 +231,15 @@ static void hang(void)
     uint8_t answer;
 
     printf("\n5. The same again, but the part hangs after the erase. At most 5 polls are allowed.\n");
-    flash_set_poll_limit(host.session, sizeof host.session, 5);
+    moss_flash_set_poll_limit(host.session, sizeof host.session, 5);
     part.stuck_from = part.operations;
     table_head();
     programs = 1;
-    answer = flash_host_program(&host, SETTINGS, data, sizeof data, 1, work, sizeof work);
+    answer = moss_flash_host_program(&host, SETTINGS, data, sizeof data, 1, work, sizeof work);
     programs = 0;
     table_end(answer);
     memcpy(expected + SETTINGS, data, sizeof data);
-    expect(answer == FLASH_BUSY && flash_event_polls(host.event) == 5, "answer 9 after 5 polls, and no hang of ours");
+    expect(answer == MOSS_FLASH_BUSY && moss_flash_event_polls(host.event) == 5, "answer 9 after 5 polls, and no hang of ours");
     expect(memory[BLOCK] == 0xFF, "the block is erased: the flash has no seeds now");
     expect(!memcmp(work, expected + BLOCK, BLOCK_SIZE), "the working buffer has the seeds and the new settings");
 }
@@ -257,14 +257,14 @@ static void mend(void)
     shows = 0;
     number = 0;
     do
-        answer = flash_host_is_busy(&host);
-    while (answer == FLASH_DONE && flash_event_yes(host.event));
-    if (answer == FLASH_DONE)
-        answer = flash_host_span(&host, SETTINGS, SETTINGS_SIZE, &base, &span);
-    if (answer == FLASH_DONE)
-        answer = flash_host_restore(&host, base, work, (size_t)span, page, sizeof page);
-    printf("  answer %u, %s; %u transactions\n", answer, flash_host_answer_name(answer), number);
-    expect(answer == FLASH_DONE && !memcmp(memory, expected, sizeof memory), "every byte of the part is as it should be");
+        answer = moss_flash_host_is_busy(&host);
+    while (answer == MOSS_FLASH_DONE && moss_flash_event_yes(host.event));
+    if (answer == MOSS_FLASH_DONE)
+        answer = moss_flash_host_span(&host, SETTINGS, SETTINGS_SIZE, &base, &span);
+    if (answer == MOSS_FLASH_DONE)
+        answer = moss_flash_host_restore(&host, base, work, (size_t)span, page, sizeof page);
+    printf("  answer %u, %s; %u transactions\n", answer, moss_flash_host_answer_name(answer), number);
+    expect(answer == MOSS_FLASH_DONE && !memcmp(memory, expected, sizeof memory), "every byte of the part is as it should be");
 }
 
 int main(void)

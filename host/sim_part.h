@@ -57,7 +57,7 @@ extern const uint8_t sim_sfdp[SIM_SFDP_SIZE];
 /* A part of that kind over so much memory, idle, all FF. */
 void sim_init(struct sim_part *p, uint8_t *memory, size_t capacity);
 
-/* One transaction, in the form of flash_host.h's exchange; part is a struct sim_part. */
+/* One transaction, in the form of moss_flash_host.h's exchange; part is a struct sim_part. */
 int sim_exchange(void *part, const uint8_t *head, size_t head_len, const uint8_t *payload, size_t payload_len,
                  uint8_t *reply, size_t reply_len);
 

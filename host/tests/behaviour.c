@@ -3,7 +3,7 @@
 #include <stdlib.h>
 #include <string.h>
 
-#include "flash_host.h"
+#include "moss_flash_host.h"
 #include "rig.h"
 
 #define S(g) (g)->session, sizeof (g)->session
@@ -18,19 +18,19 @@ static const uint8_t data[20] = "twenty bytes of data";
 static uint8_t start(struct rig *g, int command)
 {
     switch (command) {
-    case READ: return flash_read(S(g), 250, 12, g->work.length, E(g));
-    case LEGACY: return flash_legacy_read(S(g), 250, 12, g->work.length, E(g));
-    case PARAMS: return flash_read_params(S(g), g->work.length, E(g));
-    case ERASE: return flash_erase(S(g), E(g));
-    case SECTORS: return flash_erase_sectors(S(g), 61440, 8192, E(g));
+    case READ: return moss_flash_read(S(g), 250, 12, g->work.length, E(g));
+    case LEGACY: return moss_flash_legacy_read(S(g), 250, 12, g->work.length, E(g));
+    case PARAMS: return moss_flash_read_params(S(g), g->work.length, E(g));
+    case ERASE: return moss_flash_erase(S(g), E(g));
+    case SECTORS: return moss_flash_erase_sectors(S(g), 61440, 8192, E(g));
     case PROGRAM:
     case VERIFIED:
-        return flash_program(S(g), 4600, data, sizeof data, command == VERIFIED, g->work.bytes, g->work.length, E(g));
-    case DATA: return flash_program_data(S(g), 250, data, sizeof data, g->work.bytes, g->work.length, E(g));
-    case RESET: return flash_reset(S(g), E(g));
-    case ID: return flash_read_jedec_id(S(g), E(g));
-    case BUSY: return flash_is_busy(S(g), E(g));
-    default: return flash_is_protected(S(g), E(g));
+        return moss_flash_program(S(g), 4600, data, sizeof data, command == VERIFIED, g->work.bytes, g->work.length, E(g));
+    case DATA: return moss_flash_program_data(S(g), 250, data, sizeof data, g->work.bytes, g->work.length, E(g));
+    case RESET: return moss_flash_reset(S(g), E(g));
+    case ID: return moss_flash_read_jedec_id(S(g), E(g));
+    case BUSY: return moss_flash_is_busy(S(g), E(g));
+    default: return moss_flash_is_protected(S(g), E(g));
     }
 }
 
@@ -73,17 +73,17 @@ static void make_rig(struct rig *g, int kind, size_t room)
     small_area[22] = 0x0F; /* 131,072 bytes */
     g->part.sfdp = small_area;
     if (kind == BY_SFDP) {
-        uint8_t area_room[FLASH_SFDP_ROOM];
+        uint8_t area_room[MOSS_FLASH_SFDP_ROOM];
         struct room kept = g->work;
         g->work.bytes = area_room;
         g->work.length = sizeof area_room;
-        MUST(rig_run(g, flash_read_params(S(g), sizeof area_room, E(g)), no_twist) == FLASH_DONE);
+        MUST(rig_run(g, moss_flash_read_params(S(g), sizeof area_room, E(g)), no_twist) == MOSS_FLASH_DONE);
         g->work = kept;
     } else {
-        MUST(flash_set_capacity(S(g), CAPACITY) == FLASH_DONE);
-        MUST(flash_set_erase_size(S(g), 4096) == FLASH_DONE);
+        MUST(moss_flash_set_capacity(S(g), CAPACITY) == MOSS_FLASH_DONE);
+        MUST(moss_flash_set_erase_size(S(g), 4096) == MOSS_FLASH_DONE);
     }
-    MUST(flash_set_poll_limit(S(g), 3) == FLASH_DONE);
+    MUST(moss_flash_set_poll_limit(S(g), 3) == MOSS_FLASH_DONE);
     g->part.transactions = g->part.operations = g->part.polls = g->part.ignored = 0;
     for (i = 0; i < g->work.length; i++)
         g->work.bytes[i] = (uint8_t)(0x5A + i);
@@ -102,24 +102,24 @@ static int untouched_from(const struct rig *g, size_t from)
 
 static int same_settings(const struct rig *g, const uint8_t *before)
 {
-    uint8_t now[FLASH_SETTINGS_SIZE];
+    uint8_t now[MOSS_FLASH_SETTINGS_SIZE];
 
     rig_settings(g, now);
     return !memcmp(now, before, sizeof now);
 }
 
-/* Another step, and flash_event, tell the answer again and change nothing. */
+/* Another step, and moss_flash_event, tell the answer again and change nothing. */
 static void check_repeats(struct rig *g, uint8_t answer)
 {
-    uint8_t session[FLASH_SESSION_SIZE], event[FLASH_EVENT_SIZE];
+    uint8_t session[MOSS_FLASH_SESSION_SIZE], event[MOSS_FLASH_EVENT_SIZE];
     unsigned sent = g->part.transactions;
 
     memcpy(session, g->session, sizeof session);
     memset(event, 0xEE, sizeof event);
-    CHECK(flash_step(S(g), 1, data, 3, g->work.bytes, 0, event, sizeof event) == answer);
+    CHECK(moss_flash_step(S(g), 1, data, 3, g->work.bytes, 0, event, sizeof event) == answer);
     CHECK(!memcmp(event, g->event, sizeof event) && !memcmp(session, g->session, sizeof session));
     memset(event, 0xEE, sizeof event);
-    CHECK(flash_event(S(g), event, sizeof event) == answer);
+    CHECK(moss_flash_event(S(g), event, sizeof event) == answer);
     CHECK(!memcmp(event, g->event, sizeof event) && !memcmp(session, g->session, sizeof session));
     CHECK(g->part.transactions == sent);
 }
@@ -128,29 +128,29 @@ static void check_repeats(struct rig *g, uint8_t answer)
 
 static void test_new(void)
 {
-    uint8_t bytes[300], copy[300], s[FLASH_SETTINGS_SIZE], event[FLASH_EVENT_SIZE];
+    uint8_t bytes[300], copy[300], s[MOSS_FLASH_SETTINGS_SIZE], event[MOSS_FLASH_EVENT_SIZE];
     size_t lengths[] = {0, 1, 255, 257, 300};
     size_t i;
 
     memset(bytes, 0x77, sizeof bytes);
     memcpy(copy, bytes, sizeof copy);
     for (i = 0; i < sizeof lengths / sizeof lengths[0]; i++) {
-        CHECK(flash_new(bytes, lengths[i]) == FLASH_BAD_SESSION);
+        CHECK(moss_flash_new(bytes, lengths[i]) == MOSS_FLASH_BAD_SESSION);
         CHECK(!memcmp(bytes, copy, sizeof bytes));
     }
-    CHECK(flash_event(bytes, 256, event, sizeof event) == FLASH_BAD_SESSION);
-    CHECK(flash_new(bytes, 256) == FLASH_DONE && !memcmp(bytes + 256, copy + 256, 44));
-    CHECK(flash_settings(bytes, 256, s, sizeof s) == FLASH_DONE);
-    CHECK(flash_settings_address_bytes(s) == 3 && flash_settings_capacity_set(s) == 0 && flash_settings_capacity(s) == 0);
-    CHECK(flash_settings_erase_opcode(s) == 0x20 && flash_settings_poll_limit(s) == 65535);
-    CHECK(flash_settings_page_size(s) == 0 && flash_settings_erase_size(s) == 0 && flash_settings_density(s) == 0);
-    CHECK(flash_settings_known(s) == 0 && flash_settings_by_flag(s) == 0 && flash_settings_runs(s) == 0);
+    CHECK(moss_flash_event(bytes, 256, event, sizeof event) == MOSS_FLASH_BAD_SESSION);
+    CHECK(moss_flash_new(bytes, 256) == MOSS_FLASH_DONE && !memcmp(bytes + 256, copy + 256, 44));
+    CHECK(moss_flash_settings(bytes, 256, s, sizeof s) == MOSS_FLASH_DONE);
+    CHECK(moss_flash_settings_address_bytes(s) == 3 && moss_flash_settings_capacity_set(s) == 0 && moss_flash_settings_capacity(s) == 0);
+    CHECK(moss_flash_settings_erase_opcode(s) == 0x20 && moss_flash_settings_poll_limit(s) == 65535);
+    CHECK(moss_flash_settings_page_size(s) == 0 && moss_flash_settings_erase_size(s) == 0 && moss_flash_settings_density(s) == 0);
+    CHECK(moss_flash_settings_known(s) == 0 && moss_flash_settings_by_flag(s) == 0 && moss_flash_settings_runs(s) == 0);
     memset(event, 0xEE, sizeof event);
-    CHECK(flash_event(bytes, 256, event, sizeof event) == FLASH_DONE);
+    CHECK(moss_flash_event(bytes, 256, event, sizeof event) == MOSS_FLASH_DONE);
     for (i = 0; i < sizeof event; i++)
         MUST(event[i] == 0);
     memset(event, 0xEE, sizeof event);
-    CHECK(flash_step(bytes, 256, 0, 0, 0, 0, 0, event, sizeof event) == FLASH_DONE && event[40] == 0);
+    CHECK(moss_flash_step(bytes, 256, 0, 0, 0, 0, 0, event, sizeof event) == MOSS_FLASH_DONE && event[40] == 0);
 }
 
 static void test_short_records(void)
@@ -158,19 +158,19 @@ static void test_short_records(void)
     uint8_t session[256], room[64], copy[64];
     size_t i;
 
-    flash_new(session, 256);
+    moss_flash_new(session, 256);
     memset(room, 0x3C, sizeof room);
     memcpy(copy, room, sizeof copy);
     for (i = 0; i < 32; i++)
-        CHECK(flash_settings(session, 256, room, i) == FLASH_NO_ROOM && !memcmp(room, copy, sizeof room));
+        CHECK(moss_flash_settings(session, 256, room, i) == MOSS_FLASH_NO_ROOM && !memcmp(room, copy, sizeof room));
     for (i = 0; i < 64; i++) {
-        CHECK(flash_event(session, 256, room, i) == FLASH_NO_ROOM);
-        CHECK(flash_erase(session, 256, room, i) == FLASH_NO_ROOM);
-        CHECK(flash_read(session, 256, 0, 1, 1, room, i) == FLASH_NO_ROOM);
-        CHECK(flash_program_data(session, 256, 0, data, 0, 0, 0, room, i) == FLASH_NO_ROOM);
+        CHECK(moss_flash_event(session, 256, room, i) == MOSS_FLASH_NO_ROOM);
+        CHECK(moss_flash_erase(session, 256, room, i) == MOSS_FLASH_NO_ROOM);
+        CHECK(moss_flash_read(session, 256, 0, 1, 1, room, i) == MOSS_FLASH_NO_ROOM);
+        CHECK(moss_flash_program_data(session, 256, 0, data, 0, 0, 0, room, i) == MOSS_FLASH_NO_ROOM);
         CHECK(!memcmp(room, copy, sizeof room));
     }
-    CHECK(flash_event(session, 256, room, 64) == FLASH_DONE);
+    CHECK(moss_flash_event(session, 256, room, 64) == MOSS_FLASH_DONE);
 }
 
 static void test_setters(void)
@@ -178,32 +178,32 @@ static void test_setters(void)
     static const uint64_t page[] = {0, 32769, 65536, 1ull << 32, (1ull << 32) + 1, ~0ull};
     static const uint64_t size[] = {0, 2147483649ull, 1ull << 32, (1ull << 32) + 4096, ~0ull};
     static const uint32_t limit[] = {0, 65536, 65537, 0xFFFFFFFFu};
-    uint8_t s[256], before[256], r[FLASH_SETTINGS_SIZE];
+    uint8_t s[256], before[256], r[MOSS_FLASH_SETTINGS_SIZE];
     unsigned i;
 
-    flash_new(s, 256);
+    moss_flash_new(s, 256);
     memcpy(before, s, 256);
     for (i = 0; i < 256; i++)
-        CHECK((i >= 1 && i <= 4) || flash_set_address_bytes(s, 256, (uint8_t)i) == FLASH_BAD_SETTING);
+        CHECK((i >= 1 && i <= 4) || moss_flash_set_address_bytes(s, 256, (uint8_t)i) == MOSS_FLASH_BAD_SETTING);
     for (i = 0; i < sizeof page / 8; i++)
-        CHECK(flash_set_page_size(s, 256, page[i]) == FLASH_BAD_SETTING);
+        CHECK(moss_flash_set_page_size(s, 256, page[i]) == MOSS_FLASH_BAD_SETTING);
     for (i = 0; i < sizeof size / 8; i++)
-        CHECK(flash_set_erase_size(s, 256, size[i]) == FLASH_BAD_SETTING);
+        CHECK(moss_flash_set_erase_size(s, 256, size[i]) == MOSS_FLASH_BAD_SETTING);
     for (i = 0; i < sizeof limit / 4; i++)
-        CHECK(flash_set_poll_limit(s, 256, limit[i]) == FLASH_BAD_SETTING);
+        CHECK(moss_flash_set_poll_limit(s, 256, limit[i]) == MOSS_FLASH_BAD_SETTING);
     CHECK(!memcmp(before, s, 256));
-    CHECK(flash_set_address_bytes(s, 256, 1) == 0 && flash_set_address_bytes(s, 256, 4) == 0);
-    CHECK(flash_set_page_size(s, 256, 1) == 0 && flash_set_page_size(s, 256, 32768) == 0);
-    CHECK(flash_set_erase_size(s, 256, 1) == 0 && flash_set_erase_size(s, 256, 2147483648ull) == 0);
-    CHECK(flash_set_poll_limit(s, 256, 1) == 0 && flash_set_poll_limit(s, 256, 65535) == 0);
-    CHECK(flash_set_erase_opcode(s, 256, 0) == 0 && flash_set_erase_opcode(s, 256, 0xFF) == 0);
-    CHECK(flash_set_capacity(s, 256, 0) == 0 && flash_set_capacity(s, 256, ~0ull) == 0);
-    CHECK(flash_settings(s, 256, r, sizeof r) == 0);
-    CHECK(flash_settings_address_bytes(r) == 4 && flash_settings_page_size(r) == 32768);
-    CHECK(flash_settings_erase_size(r) == 2147483648u && flash_settings_erase_opcode(r) == 0xFF);
-    CHECK(flash_settings_capacity_set(r) == 1 && flash_settings_capacity(r) == ~0ull);
-    CHECK(flash_clear_capacity(s, 256) == 0 && flash_settings(s, 256, r, sizeof r) == 0);
-    CHECK(flash_settings_capacity_set(r) == 0 && flash_settings_capacity(r) == 0);
+    CHECK(moss_flash_set_address_bytes(s, 256, 1) == 0 && moss_flash_set_address_bytes(s, 256, 4) == 0);
+    CHECK(moss_flash_set_page_size(s, 256, 1) == 0 && moss_flash_set_page_size(s, 256, 32768) == 0);
+    CHECK(moss_flash_set_erase_size(s, 256, 1) == 0 && moss_flash_set_erase_size(s, 256, 2147483648ull) == 0);
+    CHECK(moss_flash_set_poll_limit(s, 256, 1) == 0 && moss_flash_set_poll_limit(s, 256, 65535) == 0);
+    CHECK(moss_flash_set_erase_opcode(s, 256, 0) == 0 && moss_flash_set_erase_opcode(s, 256, 0xFF) == 0);
+    CHECK(moss_flash_set_capacity(s, 256, 0) == 0 && moss_flash_set_capacity(s, 256, ~0ull) == 0);
+    CHECK(moss_flash_settings(s, 256, r, sizeof r) == 0);
+    CHECK(moss_flash_settings_address_bytes(r) == 4 && moss_flash_settings_page_size(r) == 32768);
+    CHECK(moss_flash_settings_erase_size(r) == 2147483648u && moss_flash_settings_erase_opcode(r) == 0xFF);
+    CHECK(moss_flash_settings_capacity_set(r) == 1 && moss_flash_settings_capacity(r) == ~0ull);
+    CHECK(moss_flash_clear_capacity(s, 256) == 0 && moss_flash_settings(s, 256, r, sizeof r) == 0);
+    CHECK(moss_flash_settings_capacity_set(r) == 0 && moss_flash_settings_capacity(r) == 0);
 }
 
 /* ---- what is sent */
@@ -226,14 +226,14 @@ static void test_whole_list(void)
     struct rig g;
 
     rig_make(&g, 1024, 256);
-    flash_set_erase_size(S(&g), 256);
-    flash_set_erase_opcode(S(&g), 0x20);
-    flash_set_page_size(S(&g), 256);
-    flash_set_capacity(S(&g), 1024);
+    moss_flash_set_erase_size(S(&g), 256);
+    moss_flash_set_erase_opcode(S(&g), 0x20);
+    moss_flash_set_page_size(S(&g), 256);
+    moss_flash_set_capacity(S(&g), 1024);
     g.part.types[0].size = 256;
-    CHECK(rig_run(&g, flash_program(S(&g), 256, two, 2, 0, g.work.bytes, 256, E(&g)), no_twist) == FLASH_DONE);
+    CHECK(rig_run(&g, moss_flash_program(S(&g), 256, two, 2, 0, g.work.bytes, 256, E(&g)), no_twist) == MOSS_FLASH_DONE);
     CHECK(!strcmp(g.trace, "0b00010200/254 06/0 20000100/0 05/1 06/0 020001000102/0 05/1"));
-    CHECK(flash_event_polls(g.event) == 2 && g.memory[256] == 1 && g.memory[257] == 2 && g.part.ignored == 0);
+    CHECK(moss_flash_event_polls(g.event) == 2 && g.memory[256] == 1 && g.memory[257] == 2 && g.part.ignored == 0);
     rig_free(&g);
 }
 
@@ -243,34 +243,34 @@ static void test_sent(void)
     uint8_t *before = malloc(CAPACITY);
 
     make_rig(&g, BY_HAND, 4096);
-    expect_run(&g, READ, FLASH_DONE, "0b0000fa00/12");
+    expect_run(&g, READ, MOSS_FLASH_DONE, "0b0000fa00/12");
     CHECK(!memcmp(g.work.bytes, g.memory + 250, 12) && untouched_from(&g, 12));
-    expect_run(&g, LEGACY, FLASH_DONE, "030000fa/12");
-    expect_run(&g, RESET, FLASH_DONE, "66/0 99/0");
-    expect_run(&g, ID, FLASH_DONE, "9f/3");
-    CHECK(flash_event_bank(g.event) == 0 && flash_event_manufacturer(g.event) == 0xEF);
-    CHECK(flash_event_device(g.event) == 0x4014);
-    expect_run(&g, BUSY, FLASH_DONE, "05/1");
-    CHECK(flash_event_yes(g.event) == 0 && flash_event_polls(g.event) == 1);
-    expect_run(&g, PROTECTED, FLASH_DONE, "05/1");
-    CHECK(flash_event_yes(g.event) == 0 && flash_event_polls(g.event) == 0);
+    expect_run(&g, LEGACY, MOSS_FLASH_DONE, "030000fa/12");
+    expect_run(&g, RESET, MOSS_FLASH_DONE, "66/0 99/0");
+    expect_run(&g, ID, MOSS_FLASH_DONE, "9f/3");
+    CHECK(moss_flash_event_bank(g.event) == 0 && moss_flash_event_manufacturer(g.event) == 0xEF);
+    CHECK(moss_flash_event_device(g.event) == 0x4014);
+    expect_run(&g, BUSY, MOSS_FLASH_DONE, "05/1");
+    CHECK(moss_flash_event_yes(g.event) == 0 && moss_flash_event_polls(g.event) == 1);
+    expect_run(&g, PROTECTED, MOSS_FLASH_DONE, "05/1");
+    CHECK(moss_flash_event_yes(g.event) == 0 && moss_flash_event_polls(g.event) == 0);
     g.part.protect = 0x10;
-    expect_run(&g, PROTECTED, FLASH_DONE, "05/1");
-    CHECK(flash_event_yes(g.event) == 1);
+    expect_run(&g, PROTECTED, MOSS_FLASH_DONE, "05/1");
+    CHECK(moss_flash_event_yes(g.event) == 1);
     memcpy(before, g.memory, CAPACITY);
     memset(before + 61440, 0xFF, 8192);
-    expect_run(&g, SECTORS, FLASH_DONE, "06/0 2000f000/0 05/1 06/0 20010000/0 05/1");
+    expect_run(&g, SECTORS, MOSS_FLASH_DONE, "06/0 2000f000/0 05/1 06/0 20010000/0 05/1");
     CHECK(!memcmp(before, g.memory, CAPACITY));
     free(before);
-    expect_run(&g, ERASE, FLASH_DONE, "06/0 c7/0 05/1");
+    expect_run(&g, ERASE, MOSS_FLASH_DONE, "06/0 c7/0 05/1");
     CHECK(g.memory[0] == 0xFF && g.memory[CAPACITY - 1] == 0xFF);
-    expect_run(&g, DATA, FLASH_DONE, "06/0 020000fa7477656e7479/0 05/1 06/0 02000100206279746573206f662064617461/0 05/1");
+    expect_run(&g, DATA, MOSS_FLASH_DONE, "06/0 020000fa7477656e7479/0 05/1 06/0 02000100206279746573206f662064617461/0 05/1");
     CHECK(!memcmp(g.memory + 250, data, 20) && g.memory[249] == 0xFF && g.memory[270] == 0xFF);
     g.part.id[0] = 0x7F;
-    expect_run(&g, ID, FLASH_DONE, "9f/3 9f/16");
-    CHECK(flash_event_bank(g.event) == 1 && flash_event_manufacturer(g.event) == 0x40);
+    expect_run(&g, ID, MOSS_FLASH_DONE, "9f/3 9f/16");
+    CHECK(moss_flash_event_bank(g.event) == 1 && moss_flash_event_manufacturer(g.event) == 0x40);
     memset(g.part.id, 0x7F, 16);
-    expect_run(&g, ID, FLASH_INVALID_MANUFACTURER, "9f/3 9f/16");
+    expect_run(&g, ID, MOSS_FLASH_INVALID_MANUFACTURER, "9f/3 9f/16");
     CHECK(g.part.ignored == 0);
     rig_free(&g);
 }
@@ -286,14 +286,14 @@ static void test_program(void)
         make_rig(&g, kind, 4096 + 10);
         memcpy(before, g.memory, CAPACITY);
         memcpy(before + 4600, data, 20);
-        CHECK(rig_run(&g, start(&g, VERIFIED), no_twist) == FLASH_DONE);
+        CHECK(rig_run(&g, start(&g, VERIFIED), no_twist) == MOSS_FLASH_DONE);
         CHECK(!memcmp(before, g.memory, CAPACITY) && !memcmp(before + 4096, g.work.bytes, 4096));
         CHECK(untouched_from(&g, 4096));
-        CHECK(g.sent == 2 + 17 * 3 + 1 && flash_event_polls(g.event) == 17 && g.part.ignored == 0);
+        CHECK(g.sent == 2 + 17 * 3 + 1 && moss_flash_event_polls(g.event) == 17 && g.part.ignored == 0);
         CHECK(!strncmp(g.trace, "0b00100000/504 0b00120c00/3572 06/0 20001000/0", 46));
         CHECK((strstr(g.trace, " ~24000 ") != NULL) == (kind == BY_SFDP));
         memset(g.memory + 4620, 0xFF, 3572);
-        CHECK(rig_run(&g, start(&g, VERIFIED), no_twist) == FLASH_DONE);
+        CHECK(rig_run(&g, start(&g, VERIFIED), no_twist) == MOSS_FLASH_DONE);
         CHECK(g.sent == 2 + 4 * 3 + 1 && !memcmp(before, g.memory, 4620));
         CHECK(!strcmp(g.trace + strlen(g.trace) - 14, "0b00100000/524"));
         rig_free(&g);
@@ -304,25 +304,25 @@ static void test_program(void)
 static void test_params(void)
 {
     struct rig g;
-    uint8_t s[FLASH_SETTINGS_SIZE], before[FLASH_SETTINGS_SIZE];
+    uint8_t s[MOSS_FLASH_SETTINGS_SIZE], before[MOSS_FLASH_SETTINGS_SIZE];
 
-    make_rig(&g, BY_HAND, FLASH_SFDP_ROOM);
-    expect_run(&g, PARAMS, FLASH_DONE, "5a00000000/8 5a00000000/16 5a00001000/64");
+    make_rig(&g, BY_HAND, MOSS_FLASH_SFDP_ROOM);
+    expect_run(&g, PARAMS, MOSS_FLASH_DONE, "5a00000000/8 5a00000000/16 5a00001000/64");
     CHECK(!memcmp(g.work.bytes, small_area + 16, 64) && untouched_from(&g, 64));
     rig_settings(&g, s);
-    CHECK(flash_settings_known(s) && flash_settings_capacity(s) == CAPACITY && flash_settings_density(s) == CAPACITY * 8);
-    CHECK(flash_settings_page_size(s) == 256 && flash_settings_erase_size(s) == 4096);
-    CHECK(flash_settings_erase_opcode(s) == 0x20 && flash_settings_address_bytes(s) == 3 && !flash_settings_by_flag(s));
+    CHECK(moss_flash_settings_known(s) && moss_flash_settings_capacity(s) == CAPACITY && moss_flash_settings_density(s) == CAPACITY * 8);
+    CHECK(moss_flash_settings_page_size(s) == 256 && moss_flash_settings_erase_size(s) == 4096);
+    CHECK(moss_flash_settings_erase_opcode(s) == 0x20 && moss_flash_settings_address_bytes(s) == 3 && !moss_flash_settings_by_flag(s));
     small_area[27] ^= 1; /* a byte that no setting hangs on */
     memcpy(before, s, sizeof s);
     small_area[11] = 8;
-    expect_run(&g, PARAMS, FLASH_INVALID_SFDP_PARAMS, "5a00000000/8 5a00000000/16 5a00001000/32");
+    expect_run(&g, PARAMS, MOSS_FLASH_INVALID_SFDP_PARAMS, "5a00000000/8 5a00000000/16 5a00001000/32");
     CHECK(same_settings(&g, before));
     small_area[15] = 0xFE;
-    expect_run(&g, PARAMS, FLASH_INVALID_SFDP_HEADER, "5a00000000/8 5a00000000/16");
+    expect_run(&g, PARAMS, MOSS_FLASH_INVALID_SFDP_HEADER, "5a00000000/8 5a00000000/16");
     CHECK(same_settings(&g, before));
     small_area[3] = 0x51;
-    expect_run(&g, PARAMS, FLASH_NO_SFDP, "5a00000000/8 5a00000000/16");
+    expect_run(&g, PARAMS, MOSS_FLASH_NO_SFDP, "5a00000000/8 5a00000000/16");
     CHECK(same_settings(&g, before));
     rig_free(&g);
 }
@@ -335,21 +335,21 @@ static void test_flag_part(void)
     make_rig(&g, BY_HAND, 4096);
     small_area[16 + 52] = 0x0B; /* dword 14: poll by flag status */
     small_area[16 + 61] = 0x08; /* dword 16: F0, not 66 */
-    CHECK(rig_run(&g, start(&g, PARAMS), no_twist) == FLASH_DONE);
-    expect_run(&g, BUSY, FLASH_DONE, "70/1");
-    CHECK(flash_event_polls(g.event) == 1 && flash_event_yes(g.event) == 0);
-    expect_run(&g, PROTECTED, FLASH_DONE, "05/1");
-    expect_run(&g, RESET, FLASH_DONE, "f0/0");
+    CHECK(rig_run(&g, start(&g, PARAMS), no_twist) == MOSS_FLASH_DONE);
+    expect_run(&g, BUSY, MOSS_FLASH_DONE, "70/1");
+    CHECK(moss_flash_event_polls(g.event) == 1 && moss_flash_event_yes(g.event) == 0);
+    expect_run(&g, PROTECTED, MOSS_FLASH_DONE, "05/1");
+    expect_run(&g, RESET, MOSS_FLASH_DONE, "f0/0");
     g.part.busy_polls = 3;
-    expect_run(&g, ERASE, FLASH_DONE, "06/0 c7/0 70/1 70/1 70/1");
+    expect_run(&g, ERASE, MOSS_FLASH_DONE, "06/0 c7/0 70/1 70/1 70/1");
     small_area[16 + 61] = 0x00;
-    CHECK(rig_run(&g, start(&g, PARAMS), no_twist) == FLASH_DONE);
-    expect_run(&g, BUSY, FLASH_DONE, "70/1");
+    CHECK(rig_run(&g, start(&g, PARAMS), no_twist) == MOSS_FLASH_DONE);
+    expect_run(&g, BUSY, MOSS_FLASH_DONE, "70/1");
     {
-        uint8_t before[FLASH_SESSION_SIZE];
+        uint8_t before[MOSS_FLASH_SESSION_SIZE];
         memcpy(before, g.session, sizeof before);
-        CHECK(start(&g, RESET) == FLASH_NO_RESET_INSTRUCTION && !memcmp(before, g.session, sizeof before));
-        CHECK(flash_event_kind(g.event) == FLASH_NO_RESET_INSTRUCTION && flash_event_polls(g.event) == 0);
+        CHECK(start(&g, RESET) == MOSS_FLASH_NO_RESET_INSTRUCTION && !memcmp(before, g.session, sizeof before));
+        CHECK(moss_flash_event_kind(g.event) == MOSS_FLASH_NO_RESET_INSTRUCTION && moss_flash_event_polls(g.event) == 0);
     }
     rig_free(&g);
 }
@@ -380,17 +380,17 @@ static void test_ranges(void)
         uint8_t s[256], before[256], event[64];
         uint8_t now;
 
-        flash_new(s, 256);
-        flash_set_address_bytes(s, 256, r->address_bytes);
+        moss_flash_new(s, 256);
+        moss_flash_set_address_bytes(s, 256, r->address_bytes);
         memcpy(before, s, 256);
-        now = flash_read(s, 256, r->address, r->length, ~0ull, event, 64);
-        CHECK(now == (r->accepted ? FLASH_SEND : FLASH_INVALID_ADDRESS));
-        CHECK(r->accepted || (flash_event_address(event) == r->reported && !memcmp(s, before, 256)));
-        CHECK(!r->accepted || (flash_event_reply(event) == r->length && memcmp(s, before, 256)));
+        now = moss_flash_read(s, 256, r->address, r->length, ~0ull, event, 64);
+        CHECK(now == (r->accepted ? MOSS_FLASH_SEND : MOSS_FLASH_INVALID_ADDRESS));
+        CHECK(r->accepted || (moss_flash_event_address(event) == r->reported && !memcmp(s, before, 256)));
+        CHECK(!r->accepted || (moss_flash_event_reply(event) == r->length && memcmp(s, before, 256)));
         if (r->accepted) {
             memcpy(s, before, 256);
-            CHECK(flash_read(s, 256, r->address, r->length, r->length - 1, event, 64) == FLASH_NO_ROOM);
-            CHECK(flash_event_need(event) == r->length && !memcmp(s, before, 256));
+            CHECK(moss_flash_read(s, 256, r->address, r->length, r->length - 1, event, 64) == MOSS_FLASH_NO_ROOM);
+            CHECK(moss_flash_event_need(event) == r->length && !memcmp(s, before, 256));
         }
     }
 }
@@ -398,8 +398,8 @@ static void test_ranges(void)
 /* A start that is refused changes no byte but the event's. */
 static void refuses(struct rig *g, uint8_t now, uint8_t answer, uint64_t number)
 {
-    CHECK(now == answer && flash_event_kind(g->event) == answer && flash_event_a(g->event) == number);
-    CHECK(flash_event_polls(g->event) == 0 && flash_event_head_length(g->event) == 0);
+    CHECK(now == answer && moss_flash_event_kind(g->event) == answer && moss_flash_event_a(g->event) == number);
+    CHECK(moss_flash_event_polls(g->event) == 0 && moss_flash_event_head_length(g->event) == 0);
 }
 
 static void test_refusals(void)
@@ -411,24 +411,24 @@ static void test_refusals(void)
     make_rig(&g, BY_SFDP, 4095);
     memcpy(before, g.session, 256);
     w = g.work.bytes;
-    refuses(&g, flash_program(S(&g), 4600, data, 20, 0, w, 4095, E(&g)), FLASH_NO_ROOM, 4096);
-    refuses(&g, flash_program(S(&g), CAPACITY - 6, data, 20, 0, w, 0, E(&g)), FLASH_INVALID_ADDRESS, CAPACITY + 13);
-    refuses(&g, flash_program(S(&g), 0, data, 0, 0, w, 0, E(&g)), FLASH_INVALID_ADDRESS, 0xFFFFFFFF);
-    refuses(&g, flash_program_data(S(&g), CAPACITY - 6, data, 20, w, 0, E(&g)), FLASH_INVALID_ADDRESS, CAPACITY + 13);
-    refuses(&g, flash_program_data(S(&g), CAPACITY - 20, data, 20, w, 19, E(&g)), FLASH_NO_ROOM, 20);
-    refuses(&g, flash_erase_sectors(S(&g), 4096, 61440, E(&g)), FLASH_INVALID_ADDRESS, 4096);
-    refuses(&g, flash_erase_sectors(S(&g), 4097, 4096, E(&g)), FLASH_INVALID_ADDRESS, 4097);
-    refuses(&g, flash_erase_sectors(S(&g), 4096, 4095, E(&g)), FLASH_INVALID_ADDRESS, 8191);
-    refuses(&g, flash_read_params(S(&g), 2055, E(&g)), FLASH_NO_ROOM, 2056);
+    refuses(&g, moss_flash_program(S(&g), 4600, data, 20, 0, w, 4095, E(&g)), MOSS_FLASH_NO_ROOM, 4096);
+    refuses(&g, moss_flash_program(S(&g), CAPACITY - 6, data, 20, 0, w, 0, E(&g)), MOSS_FLASH_INVALID_ADDRESS, CAPACITY + 13);
+    refuses(&g, moss_flash_program(S(&g), 0, data, 0, 0, w, 0, E(&g)), MOSS_FLASH_INVALID_ADDRESS, 0xFFFFFFFF);
+    refuses(&g, moss_flash_program_data(S(&g), CAPACITY - 6, data, 20, w, 0, E(&g)), MOSS_FLASH_INVALID_ADDRESS, CAPACITY + 13);
+    refuses(&g, moss_flash_program_data(S(&g), CAPACITY - 20, data, 20, w, 19, E(&g)), MOSS_FLASH_NO_ROOM, 20);
+    refuses(&g, moss_flash_erase_sectors(S(&g), 4096, 61440, E(&g)), MOSS_FLASH_INVALID_ADDRESS, 4096);
+    refuses(&g, moss_flash_erase_sectors(S(&g), 4097, 4096, E(&g)), MOSS_FLASH_INVALID_ADDRESS, 4097);
+    refuses(&g, moss_flash_erase_sectors(S(&g), 4096, 4095, E(&g)), MOSS_FLASH_INVALID_ADDRESS, 8191);
+    refuses(&g, moss_flash_read_params(S(&g), 2055, E(&g)), MOSS_FLASH_NO_ROOM, 2056);
     CHECK(!memcmp(before, g.session, 256));
     CHECK(untouched_from(&g, 0));
-    flash_set_capacity(S(&g), CAPACITY - 1); /* the last block passes it */
-    refuses(&g, flash_program(S(&g), CAPACITY - 6, data, 5, 0, w, 4095, E(&g)), FLASH_INVALID_ADDRESS, CAPACITY - 1);
-    flash_set_capacity(S(&g), 0);
-    refuses(&g, flash_read(S(&g), 0, 1, 1, E(&g)), FLASH_INVALID_ADDRESS, 0);
-    flash_new(S(&g));
-    refuses(&g, flash_program(S(&g), 0, data, 5, 0, w, 0, E(&g)), FLASH_NO_ERASE_INSTRUCTION, 0);
-    refuses(&g, flash_erase_sectors(S(&g), 0, 5, E(&g)), FLASH_NO_ERASE_INSTRUCTION, 0);
+    moss_flash_set_capacity(S(&g), CAPACITY - 1); /* the last block passes it */
+    refuses(&g, moss_flash_program(S(&g), CAPACITY - 6, data, 5, 0, w, 4095, E(&g)), MOSS_FLASH_INVALID_ADDRESS, CAPACITY - 1);
+    moss_flash_set_capacity(S(&g), 0);
+    refuses(&g, moss_flash_read(S(&g), 0, 1, 1, E(&g)), MOSS_FLASH_INVALID_ADDRESS, 0);
+    moss_flash_new(S(&g));
+    refuses(&g, moss_flash_program(S(&g), 0, data, 5, 0, w, 0, E(&g)), MOSS_FLASH_NO_ERASE_INSTRUCTION, 0);
+    refuses(&g, moss_flash_erase_sectors(S(&g), 0, 5, E(&g)), MOSS_FLASH_NO_ERASE_INSTRUCTION, 0);
     CHECK(g.part.transactions == 0);
     rig_free(&g);
 }
@@ -439,10 +439,10 @@ static void test_no_data(void)
     struct rig g;
 
     make_rig(&g, BY_HAND, 16);
-    CHECK(rig_run(&g, start(&g, BUSY), no_twist) == FLASH_DONE && flash_event_polls(g.event) == 1);
-    CHECK(flash_program_data(S(&g), 0xFFFFFFFFu, data, 0, g.work.bytes, 16, E(&g)) == FLASH_DONE);
-    CHECK(flash_event_polls(g.event) == 0);
-    check_repeats(&g, FLASH_DONE);
+    CHECK(rig_run(&g, start(&g, BUSY), no_twist) == MOSS_FLASH_DONE && moss_flash_event_polls(g.event) == 1);
+    CHECK(moss_flash_program_data(S(&g), 0xFFFFFFFFu, data, 0, g.work.bytes, 16, E(&g)) == MOSS_FLASH_DONE);
+    CHECK(moss_flash_event_polls(g.event) == 0);
+    check_repeats(&g, MOSS_FLASH_DONE);
     rig_free(&g);
 }
 
@@ -465,14 +465,14 @@ static void check_kept(const struct rig *g, int command, unsigned sent, const ui
 static void run_twisted(int kind, int command, struct twist t, unsigned at, const uint8_t *before)
 {
     struct rig g;
-    uint8_t settings[FLASH_SETTINGS_SIZE];
+    uint8_t settings[MOSS_FLASH_SETTINGS_SIZE];
 
     make_rig(&g, kind, 4096);
     rig_settings(&g, settings);
-    CHECK(rig_run(&g, start(&g, command), t) == FLASH_ACCESS);
+    CHECK(rig_run(&g, start(&g, command), t) == MOSS_FLASH_ACCESS);
     CHECK(g.sent == at + 1 && same_settings(&g, settings));
     check_kept(&g, command, g.sent, before);
-    check_repeats(&g, FLASH_ACCESS);
+    check_repeats(&g, MOSS_FLASH_ACCESS);
     rig_free(&g);
 }
 
@@ -484,7 +484,7 @@ static void test_each_fault(int kind, int command)
 
     make_rig(&g, kind, 4096);
     memcpy(before, g.memory, CAPACITY);
-    CHECK(rig_run(&g, start(&g, command), no_twist) == FLASH_DONE);
+    CHECK(rig_run(&g, start(&g, command), no_twist) == MOSS_FLASH_DONE);
     sent = g.sent;
     rig_free(&g);
     for (at = 0; at < sent; at++) {
@@ -503,10 +503,10 @@ static void test_rooms(int kind, int command)
     struct rig g;
 
     make_rig(&g, kind, need_of(command));
-    CHECK(rig_run(&g, start(&g, command), poor) == FLASH_DONE);
+    CHECK(rig_run(&g, start(&g, command), poor) == MOSS_FLASH_DONE);
     rig_free(&g);
     make_rig(&g, kind, need_of(command) + 100);
-    CHECK(rig_run(&g, start(&g, command), no_twist) == FLASH_DONE);
+    CHECK(rig_run(&g, start(&g, command), no_twist) == MOSS_FLASH_DONE);
     CHECK(untouched_from(&g, need_of(command)));
     rig_free(&g);
 }
@@ -515,23 +515,23 @@ static void test_rooms(int kind, int command)
 static void test_stuck(int kind, int command)
 {
     struct rig g;
-    uint8_t settings[FLASH_SETTINGS_SIZE];
+    uint8_t settings[MOSS_FLASH_SETTINGS_SIZE];
     uint8_t *before = malloc(CAPACITY);
     unsigned operations, i;
 
     make_rig(&g, kind, 4096);
     memcpy(before, g.memory, CAPACITY);
-    CHECK(rig_run(&g, start(&g, command), no_twist) == FLASH_DONE);
+    CHECK(rig_run(&g, start(&g, command), no_twist) == MOSS_FLASH_DONE);
     operations = g.part.operations;
     rig_free(&g);
     for (i = 0; i < operations; i++) {
         make_rig(&g, kind, 4096);
         rig_settings(&g, settings);
         g.part.stuck_from = i;
-        CHECK(rig_run(&g, start(&g, command), no_twist) == FLASH_BUSY);
+        CHECK(rig_run(&g, start(&g, command), no_twist) == MOSS_FLASH_BUSY);
         CHECK(g.polls == i + 3 && g.part.operations == i + 1 && same_settings(&g, settings));
         check_kept(&g, command, g.sent, before);
-        check_repeats(&g, FLASH_BUSY);
+        check_repeats(&g, MOSS_FLASH_BUSY);
         rig_free(&g);
     }
     free(before);
@@ -541,7 +541,7 @@ static void test_stuck(int kind, int command)
 
 static void refused_while_running(struct rig *g)
 {
-    uint8_t before[FLASH_SESSION_SIZE], event[FLASH_EVENT_SIZE];
+    uint8_t before[MOSS_FLASH_SESSION_SIZE], event[MOSS_FLASH_EVENT_SIZE];
     uint8_t *work = malloc(g->work.length + 1);
     int other;
 
@@ -549,14 +549,14 @@ static void refused_while_running(struct rig *g)
     memcpy(event, g->event, sizeof event);
     memcpy(work, g->work.bytes, g->work.length);
     for (other = 0; other < COMMANDS; other++)
-        CHECK(start(g, other) == FLASH_BAD_SESSION);
-    CHECK(flash_set_address_bytes(S(g), 4) == FLASH_BAD_SESSION && flash_set_address_bytes(S(g), 9) == FLASH_BAD_SESSION);
-    CHECK(flash_set_page_size(S(g), 1) == FLASH_BAD_SESSION && flash_set_erase_size(S(g), 1) == FLASH_BAD_SESSION);
-    CHECK(flash_set_erase_opcode(S(g), 1) == FLASH_BAD_SESSION && flash_set_poll_limit(S(g), 1) == FLASH_BAD_SESSION);
-    CHECK(flash_set_capacity(S(g), 1) == FLASH_BAD_SESSION && flash_clear_capacity(S(g)) == FLASH_BAD_SESSION);
+        CHECK(start(g, other) == MOSS_FLASH_BAD_SESSION);
+    CHECK(moss_flash_set_address_bytes(S(g), 4) == MOSS_FLASH_BAD_SESSION && moss_flash_set_address_bytes(S(g), 9) == MOSS_FLASH_BAD_SESSION);
+    CHECK(moss_flash_set_page_size(S(g), 1) == MOSS_FLASH_BAD_SESSION && moss_flash_set_erase_size(S(g), 1) == MOSS_FLASH_BAD_SESSION);
+    CHECK(moss_flash_set_erase_opcode(S(g), 1) == MOSS_FLASH_BAD_SESSION && moss_flash_set_poll_limit(S(g), 1) == MOSS_FLASH_BAD_SESSION);
+    CHECK(moss_flash_set_capacity(S(g), 1) == MOSS_FLASH_BAD_SESSION && moss_flash_clear_capacity(S(g)) == MOSS_FLASH_BAD_SESSION);
     CHECK(!memcmp(before, g->session, sizeof before) && !memcmp(work, g->work.bytes, g->work.length));
     memset(g->event, 0xEE, sizeof event);
-    CHECK(flash_event(S(g), E(g)) == FLASH_SEND);
+    CHECK(moss_flash_event(S(g), E(g)) == MOSS_FLASH_SEND);
     CHECK(!memcmp(event, g->event, sizeof event) && !memcmp(before, g->session, sizeof before));
     free(work);
 }
@@ -564,16 +564,16 @@ static void refused_while_running(struct rig *g)
 static void test_running(int kind, int command)
 {
     struct rig g;
-    uint8_t s[FLASH_SETTINGS_SIZE];
+    uint8_t s[MOSS_FLASH_SETTINGS_SIZE];
 
     make_rig(&g, kind, 4096);
-    CHECK(start(&g, command) == FLASH_SEND);
+    CHECK(start(&g, command) == MOSS_FLASH_SEND);
     rig_settings(&g, s);
-    CHECK(flash_settings_runs(s) == 1);
+    CHECK(moss_flash_settings_runs(s) == 1);
     refused_while_running(&g);
-    CHECK(rig_run(&g, FLASH_SEND, no_twist) == FLASH_DONE);
+    CHECK(rig_run(&g, MOSS_FLASH_SEND, no_twist) == MOSS_FLASH_DONE);
     rig_settings(&g, s);
-    CHECK(flash_settings_runs(s) == 0);
+    CHECK(moss_flash_settings_runs(s) == 0);
     rig_free(&g);
 }
 
@@ -591,12 +591,12 @@ static unsigned flip_bits(const struct rig *g)
         memcpy(before, s, 256);
         memset(event, 0xEE, sizeof event);
         memset(unwritten, 0xEE, sizeof event);
-        now = flash_event(s, 256, event, 64);
-        CHECK(now <= FLASH_BAD_SESSION || now == FLASH_SEND);
-        if (now == FLASH_BAD_SESSION && event[0] == 0xEE) {
-            MUST(flash_step(s, 256, 0, g->reply, 0, g->work.bytes, g->work.length, event, 64) == FLASH_BAD_SESSION);
-            MUST(flash_erase(s, 256, event, 64) == FLASH_BAD_SESSION);
-            MUST(flash_set_capacity(s, 256, 1) == FLASH_BAD_SESSION);
+        now = moss_flash_event(s, 256, event, 64);
+        CHECK(now <= MOSS_FLASH_BAD_SESSION || now == MOSS_FLASH_SEND);
+        if (now == MOSS_FLASH_BAD_SESSION && event[0] == 0xEE) {
+            MUST(moss_flash_step(s, 256, 0, g->reply, 0, g->work.bytes, g->work.length, event, 64) == MOSS_FLASH_BAD_SESSION);
+            MUST(moss_flash_erase(s, 256, event, 64) == MOSS_FLASH_BAD_SESSION);
+            MUST(moss_flash_set_capacity(s, 256, 1) == MOSS_FLASH_BAD_SESSION);
             MUST(!memcmp(event, unwritten, sizeof event));
             seen++;
         }
@@ -615,14 +615,14 @@ static void test_flips(int kind, int command)
 
     make_rig(&g, kind, 4096);
     idle = flip_bits(&g);
-    CHECK(start(&g, command) == FLASH_SEND);
+    CHECK(start(&g, command) == MOSS_FLASH_SEND);
     running = flip_bits(&g);
     if (command == VERIFIED)
         printf("%s: of 2048 flipped bits %u are answered 13 in an idle session, %u in one that programs\n",
                kind == BY_HAND ? "set by hand" : "set by SFDP", idle, running);
     memcpy(wide, g.session, 256);
     for (i = 0; i < sizeof lengths / sizeof lengths[0]; i++)
-        CHECK(flash_event(wide, lengths[i], E(&g)) == FLASH_BAD_SESSION);
+        CHECK(moss_flash_event(wide, lengths[i], E(&g)) == MOSS_FLASH_BAD_SESSION);
     CHECK(!memcmp(wide, g.session, 256));
     rig_free(&g);
 }
@@ -640,17 +640,17 @@ static void test_readback(void)
     memcpy(before, g.memory, CAPACITY);
     memcpy(before + 4600, data, 20);
     g.part.bad_cell = 4605;
-    CHECK(rig_run(&g, start(&g, VERIFIED), no_twist) == FLASH_READBACK_ERROR);
-    CHECK(flash_event_address(g.event) == 4605 && flash_event_wrote(g.event) == data[5] && flash_event_read(g.event) == 0);
+    CHECK(rig_run(&g, start(&g, VERIFIED), no_twist) == MOSS_FLASH_READBACK_ERROR);
+    CHECK(moss_flash_event_address(g.event) == 4605 && moss_flash_event_wrote(g.event) == data[5] && moss_flash_event_read(g.event) == 0);
     CHECK(!strcmp(g.trace + strlen(g.trace) - 20, "0b00100000/4096 05/1") && g.polls == 17);
     CHECK(!memcmp(g.work.bytes, before + 4096, 4096));
-    check_repeats(&g, FLASH_READBACK_ERROR);
+    check_repeats(&g, MOSS_FLASH_READBACK_ERROR);
     sent = g.sent;
     rig_free(&g);
     make_rig(&g, BY_HAND, 4096);
     g.part.bad_cell = 4605;
     fails.fails_at = (int)sent - 1;
-    CHECK(rig_run(&g, start(&g, VERIFIED), fails) == FLASH_ACCESS && g.polls == 17);
+    CHECK(rig_run(&g, start(&g, VERIFIED), fails) == MOSS_FLASH_ACCESS && g.polls == 17);
     CHECK(!memcmp(g.work.bytes, before + 4096, 4096));
     rig_free(&g);
     free(before);
@@ -677,19 +677,19 @@ static const struct wanted_plan plans[7] = {
 
 static void check_plan(struct rig *g, const struct wanted_plan *p)
 {
-    uint8_t slots[5 * FLASH_ENTRY_SIZE], copy[sizeof slots];
+    uint8_t slots[5 * MOSS_FLASH_ENTRY_SIZE], copy[sizeof slots];
     unsigned i;
 
     memset(slots, 0xC3, sizeof slots);
     memcpy(copy, slots, sizeof slots);
-    CHECK(flash_make_erase_plan(S(g), p->start, p->length, slots, 16 * p->count - 1, E(g)) == FLASH_NO_ROOM);
-    CHECK(flash_event_need(g->event) == p->count && !memcmp(slots, copy, sizeof slots));
-    CHECK(flash_make_erase_plan(S(g), p->start, p->length, slots, 16 * p->count + 15, E(g)) == FLASH_DONE);
-    CHECK(flash_event_count(g->event) == p->count);
+    CHECK(moss_flash_make_erase_plan(S(g), p->start, p->length, slots, 16 * p->count - 1, E(g)) == MOSS_FLASH_NO_ROOM);
+    CHECK(moss_flash_event_need(g->event) == p->count && !memcmp(slots, copy, sizeof slots));
+    CHECK(moss_flash_make_erase_plan(S(g), p->start, p->length, slots, 16 * p->count + 15, E(g)) == MOSS_FLASH_DONE);
+    CHECK(moss_flash_event_count(g->event) == p->count);
     for (i = 0; i < p->count; i++) {
         const uint8_t *e = slots + 16 * i;
-        CHECK(flash_entry_opcode(e) == p->entries[i][0] && flash_entry_size(e) == p->entries[i][1]);
-        CHECK(flash_entry_base(e) == p->entries[i][2] && flash_entry_timed(e) == 0 && flash_entry_time(e) == 0);
+        CHECK(moss_flash_entry_opcode(e) == p->entries[i][0] && moss_flash_entry_size(e) == p->entries[i][1]);
+        CHECK(moss_flash_entry_base(e) == p->entries[i][2] && moss_flash_entry_timed(e) == 0 && moss_flash_entry_time(e) == 0);
         CHECK(e[2] == 0 && e[3] == 0);
     }
     CHECK(!memcmp(slots + 16 * p->count, copy, sizeof slots - 16 * p->count));
@@ -703,21 +703,21 @@ static void test_plans(void)
     struct rig g;
     unsigned i;
 
-    rig_make(&g, 65536, FLASH_SFDP_ROOM);
-    CHECK(flash_make_erase_plan(S(&g), 0, 4, slots, 16, E(&g)) == FLASH_NO_ERASE_INSTRUCTION);
+    rig_make(&g, 65536, MOSS_FLASH_SFDP_ROOM);
+    CHECK(moss_flash_make_erase_plan(S(&g), 0, 4, slots, 16, E(&g)) == MOSS_FLASH_NO_ERASE_INSTRUCTION);
     g.part.sfdp_len = make_area(area, 0, dwords, 9);
     g.part.sfdp = area;
-    CHECK(rig_run(&g, start(&g, PARAMS), no_twist) == FLASH_DONE);
+    CHECK(rig_run(&g, start(&g, PARAMS), no_twist) == MOSS_FLASH_DONE);
     for (i = 0; i < 7; i++)
         check_plan(&g, &plans[i]);
     memcpy(before, g.session, 256);
-    CHECK(flash_make_erase_plan(S(&g), 65530, 20, slots, 0, E(&g)) == FLASH_INVALID_ADDRESS);
-    CHECK(flash_event_address(g.event) == 65549);
-    CHECK(flash_make_erase_plan(S(&g), 0, 4, slots, 16, g.event, 63) == FLASH_NO_ROOM);
-    CHECK(flash_make_erase_plan(g.session, 255, 0, 4, slots, 16, E(&g)) == FLASH_BAD_SESSION);
+    CHECK(moss_flash_make_erase_plan(S(&g), 65530, 20, slots, 0, E(&g)) == MOSS_FLASH_INVALID_ADDRESS);
+    CHECK(moss_flash_event_address(g.event) == 65549);
+    CHECK(moss_flash_make_erase_plan(S(&g), 0, 4, slots, 16, g.event, 63) == MOSS_FLASH_NO_ROOM);
+    CHECK(moss_flash_make_erase_plan(g.session, 255, 0, 4, slots, 16, E(&g)) == MOSS_FLASH_BAD_SESSION);
     CHECK(!memcmp(before, g.session, 256));
-    CHECK(start(&g, ERASE) == FLASH_SEND); /* also while a command runs */
-    CHECK(flash_make_erase_plan(S(&g), 0, 4, slots, 16, E(&g)) == FLASH_DONE && flash_entry_opcode(slots) == 1);
+    CHECK(start(&g, ERASE) == MOSS_FLASH_SEND); /* also while a command runs */
+    CHECK(moss_flash_make_erase_plan(S(&g), 0, 4, slots, 16, E(&g)) == MOSS_FLASH_DONE && moss_flash_entry_opcode(slots) == 1);
     rig_free(&g);
 }
 
@@ -728,8 +728,8 @@ static void test_timed_plan(void)
     uint8_t slots[32];
 
     make_rig(&g, BY_SFDP, 16);
-    CHECK(flash_make_erase_plan(S(&g), 0, 32768, slots, 32, E(&g)) == FLASH_DONE && flash_event_count(g.event) == 1);
-    CHECK(flash_entry_opcode(slots) == 0x52 && flash_entry_timed(slots) == 1 && flash_entry_time(slots) == 128000);
+    CHECK(moss_flash_make_erase_plan(S(&g), 0, 32768, slots, 32, E(&g)) == MOSS_FLASH_DONE && moss_flash_event_count(g.event) == 1);
+    CHECK(moss_flash_entry_opcode(slots) == 0x52 && moss_flash_entry_timed(slots) == 1 && moss_flash_entry_time(slots) == 128000);
     rig_free(&g);
 }
 
@@ -760,9 +760,9 @@ static void make_small(struct rig *g, struct small *c)
     for (i = 0; i < capacity; i++)
         g->memory[i] = (uint8_t)(below(3) ? random64() : 0xFF);
     c->top = g->part.address_bytes == 1 && capacity > 256 ? 256 : capacity;
-    MUST(flash_set_address_bytes(S(g), g->part.address_bytes) == 0 && flash_set_capacity(S(g), capacity) == 0);
-    MUST(flash_set_erase_size(S(g), c->size) == 0 && flash_set_page_size(S(g), c->page) == 0);
-    MUST(flash_set_poll_limit(S(g), 4) == 0);
+    MUST(moss_flash_set_address_bytes(S(g), g->part.address_bytes) == 0 && moss_flash_set_capacity(S(g), capacity) == 0);
+    MUST(moss_flash_set_erase_size(S(g), c->size) == 0 && moss_flash_set_page_size(S(g), c->page) == 0);
+    MUST(moss_flash_set_poll_limit(S(g), 4) == 0);
     c->length = (size_t)below(sizeof c->bytes + 1);
     c->address = (uint32_t)below(c->top + 8);
     for (i = 0; i < c->length; i++)
@@ -790,9 +790,9 @@ static void random_program(void)
     first = c.address - c.address % c.size;
     end = (c.address + c.length + c.size - 1) / c.size * c.size;
     fits = c.length > 0 && c.address + c.length <= c.top && end <= c.top;
-    now = rig_run(&g, flash_program(S(&g), c.address, c.bytes, c.length, (uint8_t)below(3), g.work.bytes, g.work.length,
+    now = rig_run(&g, moss_flash_program(S(&g), c.address, c.bytes, c.length, (uint8_t)below(3), g.work.bytes, g.work.length,
                                     E(&g)), no_twist);
-    CHECK(now == (fits ? FLASH_DONE : FLASH_INVALID_ADDRESS));
+    CHECK(now == (fits ? MOSS_FLASH_DONE : MOSS_FLASH_INVALID_ADDRESS));
     if (fits)
         memcpy(image + c.address, c.bytes, c.length);
     CHECK(!memcmp(image, g.memory, g.part.capacity) && g.part.ignored == 0);
@@ -817,8 +817,8 @@ static void random_data(void)
     fits = c.length == 0 || c.address + c.length <= c.top;
     for (i = 0; fits && i < c.length; i++)
         image[c.address + i] &= c.bytes[i];
-    now = rig_run(&g, flash_program_data(S(&g), c.address, c.bytes, c.length, g.work.bytes, g.work.length, E(&g)), no_twist);
-    CHECK(now == (fits ? FLASH_DONE : FLASH_INVALID_ADDRESS));
+    now = rig_run(&g, moss_flash_program_data(S(&g), c.address, c.bytes, c.length, g.work.bytes, g.work.length, E(&g)), no_twist);
+    CHECK(now == (fits ? MOSS_FLASH_DONE : MOSS_FLASH_INVALID_ADDRESS));
     CHECK(!memcmp(image, g.memory, g.part.capacity) && g.part.ignored == 0);
     CHECK(g.sent <= (fits ? pages_met(&c, c.address, c.address + c.length) * 6 : 0));
     rig_free(&g);
@@ -845,9 +845,9 @@ static void random_sectors(void)
     in_range = c.length > 0 && end <= c.top;
     fits = in_range && c.address % c.size == 0 && end % c.size == 0;
     reported = !in_range ? end - 1 : c.address % c.size ? c.address : end;
-    now = rig_run(&g, flash_erase_sectors(S(&g), c.address, c.length, E(&g)), no_twist);
-    CHECK(now == (fits ? FLASH_DONE : FLASH_INVALID_ADDRESS));
-    CHECK(fits || flash_event_address(g.event) == (uint32_t)reported);
+    now = rig_run(&g, moss_flash_erase_sectors(S(&g), c.address, c.length, E(&g)), no_twist);
+    CHECK(now == (fits ? MOSS_FLASH_DONE : MOSS_FLASH_INVALID_ADDRESS));
+    CHECK(fits || moss_flash_event_address(g.event) == (uint32_t)reported);
     if (fits)
         memset(image + c.address, 0xFF, c.length);
     CHECK(!memcmp(image, g.memory, g.part.capacity) && g.part.ignored == 0);
@@ -866,7 +866,7 @@ static void count_delay(void *context, uint32_t microseconds)
     delayed += microseconds;
 }
 
-static struct flash_host h;
+static struct moss_flash_host h;
 static uint8_t host_reply[4096], host_work[4096];
 
 static void make_host(struct rig *g)
@@ -877,9 +877,9 @@ static void make_host(struct rig *g)
     h.context = &g->part;
     h.reply = host_reply;
     h.reply_room = sizeof host_reply;
-    CHECK(flash_host_init(&h) == FLASH_DONE);
-    CHECK(flash_host_read_params(&h, host_work, sizeof host_work) == FLASH_DONE);
-    CHECK(flash_set_poll_limit(h.session, 256, 4) == FLASH_DONE);
+    CHECK(moss_flash_host_init(&h) == MOSS_FLASH_DONE);
+    CHECK(moss_flash_host_read_params(&h, host_work, sizeof host_work) == MOSS_FLASH_DONE);
+    CHECK(moss_flash_set_poll_limit(h.session, 256, 4) == MOSS_FLASH_DONE);
 }
 
 /* The part hangs after the erase; later the span is written again from the working buffer. */
@@ -895,14 +895,14 @@ static void test_restore(void)
     memcpy(before, g.memory, CAPACITY);
     memcpy(before + 4600, data, 20);
     g.part.stuck_from = g.part.operations;
-    CHECK(flash_host_program(&h, 4600, data, 20, 1, host_work, 4096) == FLASH_BUSY && g.memory[4096] == 0xFF);
+    CHECK(moss_flash_host_program(&h, 4600, data, 20, 1, host_work, 4096) == MOSS_FLASH_BUSY && g.memory[4096] == 0xFF);
     CHECK(h.touched == 1 && !memcmp(host_work, before + 4096, 4096));
     g.part.stuck = 0;
     g.part.stuck_from = SIM_NEVER;
-    CHECK(flash_host_is_busy(&h) == FLASH_DONE && flash_event_yes(h.event) == 0 && h.touched == 0);
-    CHECK(flash_host_span(&h, 4600, 20, &base, &span) == FLASH_DONE && base == 4096 && span == 4096);
-    CHECK(flash_host_restore(&h, base, host_work, (size_t)span, page, 0) == FLASH_NO_ROOM);
-    CHECK(flash_host_restore(&h, base, host_work, (size_t)span, page, sizeof page) == FLASH_DONE);
+    CHECK(moss_flash_host_is_busy(&h) == MOSS_FLASH_DONE && moss_flash_event_yes(h.event) == 0 && h.touched == 0);
+    CHECK(moss_flash_host_span(&h, 4600, 20, &base, &span) == MOSS_FLASH_DONE && base == 4096 && span == 4096);
+    CHECK(moss_flash_host_restore(&h, base, host_work, (size_t)span, page, 0) == MOSS_FLASH_NO_ROOM);
+    CHECK(moss_flash_host_restore(&h, base, host_work, (size_t)span, page, sizeof page) == MOSS_FLASH_DONE);
     CHECK(!memcmp(before, g.memory, CAPACITY));
     rig_free(&g);
     free(before);
@@ -915,18 +915,18 @@ static void test_host(void)
 
     make_host(&g);
     h.reply_room = 4095;
-    CHECK(flash_host_read(&h, 0, w, 4096) == FLASH_ACCESS && flash_host_read(&h, 0, w, 4095) == FLASH_DONE);
+    CHECK(moss_flash_host_read(&h, 0, w, 4096) == MOSS_FLASH_ACCESS && moss_flash_host_read(&h, 0, w, 4095) == MOSS_FLASH_DONE);
     CHECK(!memcmp(w, g.memory, 4095));
-    CHECK(flash_host_legacy_read(&h, 1, w, 5) == FLASH_DONE && w[0] == g.memory[1]);
-    CHECK(flash_host_erase_sectors(&h, 0, 4096) == FLASH_DONE && g.memory[4095] == 0xFF && g.memory[4096] != 0xFF);
+    CHECK(moss_flash_host_legacy_read(&h, 1, w, 5) == MOSS_FLASH_DONE && w[0] == g.memory[1]);
+    CHECK(moss_flash_host_erase_sectors(&h, 0, 4096) == MOSS_FLASH_DONE && g.memory[4095] == 0xFF && g.memory[4096] != 0xFF);
     delayed = 0;
     h.poll_gap = 1000;
     g.part.busy_polls = 3;
-    CHECK(flash_host_erase(&h) == FLASH_DONE && g.memory[CAPACITY - 1] == 0xFF && delayed == 3000);
-    CHECK(flash_host_erase_sectors(&h, 0, 4096) == FLASH_DONE && delayed == 3000 + 24000 + 3000);
-    CHECK(flash_host_program_data(&h, 0, data, 20, w, 20) == FLASH_DONE && !memcmp(g.memory, data, 20));
-    CHECK(flash_host_reset(&h) == FLASH_DONE && flash_host_is_protected(&h) == FLASH_DONE);
-    CHECK(flash_host_read_jedec_id(&h) == FLASH_DONE && !strcmp(flash_host_answer_name(13), "BadSession"));
+    CHECK(moss_flash_host_erase(&h) == MOSS_FLASH_DONE && g.memory[CAPACITY - 1] == 0xFF && delayed == 3000);
+    CHECK(moss_flash_host_erase_sectors(&h, 0, 4096) == MOSS_FLASH_DONE && delayed == 3000 + 24000 + 3000);
+    CHECK(moss_flash_host_program_data(&h, 0, data, 20, w, 20) == MOSS_FLASH_DONE && !memcmp(g.memory, data, 20));
+    CHECK(moss_flash_host_reset(&h) == MOSS_FLASH_DONE && moss_flash_host_is_protected(&h) == MOSS_FLASH_DONE);
+    CHECK(moss_flash_host_read_jedec_id(&h) == MOSS_FLASH_DONE && !strcmp(moss_flash_host_answer_name(13), "BadSession"));
     rig_free(&g);
 }
 

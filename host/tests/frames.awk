@@ -1,4 +1,4 @@
-# From a disassembly: the most stack that each flash_ function can use. A function's frame is every push and every
+# From a disassembly: the most stack that each moss_flash_ function can use. A function's frame is every push and every
 # subtraction from the stack pointer in it, and the return address of its call. To that come 128 bytes that the last function
 # of a chain may use below its frame, and 64 for the arguments that a caller passes on the stack and for the call of memcpy.
 # Functions go by their address, since two may have one name.
@@ -50,7 +50,7 @@ function depth(f, parts, count, i, most, d) {
 
 END {
     for (f in title)
-        if (title[f] ~ /^<flash_[a-z_0-9]*>:$/)
+        if (title[f] ~ /^<moss_flash_[a-z_0-9]*>:$/)
             printf "  %-26s %6d\n", substr(title[f], 2, length(title[f]) - 3), depth(f) + 128 + 64
     if (odd != "")
         print "  not a bound: recursion, or a call by pointer, in " odd

@@ -87,8 +87,8 @@ static int guards_stand(void)
 #define POOL 64
 
 struct live {
-    uint8_t session[FLASH_SESSION_SIZE];
-    uint8_t event[FLASH_EVENT_SIZE];   /* what it told last */
+    uint8_t session[MOSS_FLASH_SESSION_SIZE];
+    uint8_t event[MOSS_FLASH_EVENT_SIZE];   /* what it told last */
 };
 
 static struct live pool[POOL];
@@ -100,31 +100,31 @@ enum { WHOLE, CHANGED, RANDOM, CUT };
 /* Lends a session, most often a whole one. Gives what was done to it. */
 static int lend_session(void)
 {
-    uint8_t *s = lend(SESSION, FLASH_SESSION_SIZE);
+    uint8_t *s = lend(SESSION, MOSS_FLASH_SESSION_SIZE);
     unsigned i, times;
 
     live = &pool[below(POOL)];
-    memcpy(s, live->session, FLASH_SESSION_SIZE);
+    memcpy(s, live->session, MOSS_FLASH_SESSION_SIZE);
     switch (below(16)) {
     case 0:
     case 1:
         for (times = 1 + (unsigned)below(below(2) ? 1 : 6); times > 0; times--)
-            s[below(FLASH_SESSION_SIZE)] ^= (uint8_t)(1u << below(8));
+            s[below(MOSS_FLASH_SESSION_SIZE)] ^= (uint8_t)(1u << below(8));
         return CHANGED;
     case 2:
-        s[below(FLASH_SESSION_SIZE)] = (uint8_t)random64();
+        s[below(MOSS_FLASH_SESSION_SIZE)] = (uint8_t)random64();
         return CHANGED;
     case 3:
-        i = (unsigned)below(FLASH_SESSION_SIZE);
-        memcpy(s + i, pool[below(POOL)].session + i, below(FLASH_SESSION_SIZE - i + 1));
+        i = (unsigned)below(MOSS_FLASH_SESSION_SIZE);
+        memcpy(s + i, pool[below(POOL)].session + i, below(MOSS_FLASH_SESSION_SIZE - i + 1));
         return CHANGED;
     case 4:
-        for (i = 0; i < FLASH_SESSION_SIZE; i++)
+        for (i = 0; i < MOSS_FLASH_SESSION_SIZE; i++)
             s[i] = (uint8_t)random64();
         return RANDOM;
     case 5:
         s = lend(SESSION, (size_t)below(300));
-        return fences[SESSION].length == FLASH_SESSION_SIZE ? CHANGED : CUT;
+        return fences[SESSION].length == MOSS_FLASH_SESSION_SIZE ? CHANGED : CUT;
     default:
         return WHOLE;
     }
@@ -161,7 +161,7 @@ static size_t some_room(size_t most)
 
 static void lend_event(void)
 {
-    size_t length = below(12) ? FLASH_EVENT_SIZE + (size_t)below(3) : (size_t)below(FLASH_EVENT_SIZE);
+    size_t length = below(12) ? MOSS_FLASH_EVENT_SIZE + (size_t)below(3) : (size_t)below(MOSS_FLASH_EVENT_SIZE);
 
     memset(lend(EVENT, length), 0xEE, length);
 }
@@ -169,7 +169,7 @@ static void lend_event(void)
 /* The reply to what the session told last, most often of the right length. */
 static void lend_reply(void)
 {
-    uint64_t wanted = flash_event_reply(live->event);
+    uint64_t wanted = moss_flash_event_reply(live->event);
     size_t length = (size_t)(wanted < MOST ? wanted : MOST);
     static const uint8_t bytes[] = {0x00, 0x80, 0x01, 0x7F, 0xFF};
     uint8_t byte = (uint8_t)(below(4) ? bytes[below(5)] : random64());
@@ -206,13 +206,13 @@ enum { STEP, TELL, NEW, SETTER, GETTER, READ, LEGACY, PARAMS, ERASE, SECTORS, PR
 static uint8_t call_setter(void)
 {
     switch (below(7)) {
-    case 0: return flash_set_address_bytes(AT(SESSION), (uint8_t)below(below(4) ? 6 : 256));
-    case 1: return flash_set_page_size(AT(SESSION), some_number());
-    case 2: return flash_set_erase_size(AT(SESSION), some_number());
-    case 3: return flash_set_erase_opcode(AT(SESSION), (uint8_t)random64());
-    case 4: return flash_set_poll_limit(AT(SESSION), (uint32_t)(below(3) ? below(5) : some_number()));
-    case 5: return flash_set_capacity(AT(SESSION), some_number());
-    default: return flash_clear_capacity(AT(SESSION));
+    case 0: return moss_flash_set_address_bytes(AT(SESSION), (uint8_t)below(below(4) ? 6 : 256));
+    case 1: return moss_flash_set_page_size(AT(SESSION), some_number());
+    case 2: return moss_flash_set_erase_size(AT(SESSION), some_number());
+    case 3: return moss_flash_set_erase_opcode(AT(SESSION), (uint8_t)random64());
+    case 4: return moss_flash_set_poll_limit(AT(SESSION), (uint32_t)(below(3) ? below(5) : some_number()));
+    case 5: return moss_flash_set_capacity(AT(SESSION), some_number());
+    default: return moss_flash_clear_capacity(AT(SESSION));
     }
 }
 
@@ -221,23 +221,23 @@ static uint8_t call(int which)
     uint32_t address = some_address();
 
     switch (which) {
-    case STEP: return flash_step(AT(SESSION), below(16) == 0, AT(REPLY), AT(WORK), AT(EVENT));
-    case TELL: return flash_event(AT(SESSION), AT(EVENT));
-    case NEW: return flash_new(AT(SESSION));
+    case STEP: return moss_flash_step(AT(SESSION), below(16) == 0, AT(REPLY), AT(WORK), AT(EVENT));
+    case TELL: return moss_flash_event(AT(SESSION), AT(EVENT));
+    case NEW: return moss_flash_new(AT(SESSION));
     case SETTER: return call_setter();
-    case GETTER: return flash_settings(AT(SESSION), AT(SLOTS));
-    case READ: return flash_read(AT(SESSION), address, some_number(), some_number(), AT(EVENT));
-    case LEGACY: return flash_legacy_read(AT(SESSION), address, some_number(), some_number(), AT(EVENT));
-    case PARAMS: return flash_read_params(AT(SESSION), below(4) ? MOST : some_number(), AT(EVENT));
-    case ERASE: return flash_erase(AT(SESSION), AT(EVENT));
-    case SECTORS: return flash_erase_sectors(AT(SESSION), address, some_plan_length(), AT(EVENT));
-    case PROGRAM: return flash_program(AT(SESSION), address, AT(DATA), (uint8_t)below(3), AT(WORK), AT(EVENT));
-    case WRITE: return flash_program_data(AT(SESSION), address, AT(DATA), AT(WORK), AT(EVENT));
-    case RESET: return flash_reset(AT(SESSION), AT(EVENT));
-    case ID: return flash_read_jedec_id(AT(SESSION), AT(EVENT));
-    case BUSY: return flash_is_busy(AT(SESSION), AT(EVENT));
-    case PROTECTED: return flash_is_protected(AT(SESSION), AT(EVENT));
-    default: return flash_make_erase_plan(AT(SESSION), address, some_plan_length(), AT(SLOTS), AT(EVENT));
+    case GETTER: return moss_flash_settings(AT(SESSION), AT(SLOTS));
+    case READ: return moss_flash_read(AT(SESSION), address, some_number(), some_number(), AT(EVENT));
+    case LEGACY: return moss_flash_legacy_read(AT(SESSION), address, some_number(), some_number(), AT(EVENT));
+    case PARAMS: return moss_flash_read_params(AT(SESSION), below(4) ? MOST : some_number(), AT(EVENT));
+    case ERASE: return moss_flash_erase(AT(SESSION), AT(EVENT));
+    case SECTORS: return moss_flash_erase_sectors(AT(SESSION), address, some_plan_length(), AT(EVENT));
+    case PROGRAM: return moss_flash_program(AT(SESSION), address, AT(DATA), (uint8_t)below(3), AT(WORK), AT(EVENT));
+    case WRITE: return moss_flash_program_data(AT(SESSION), address, AT(DATA), AT(WORK), AT(EVENT));
+    case RESET: return moss_flash_reset(AT(SESSION), AT(EVENT));
+    case ID: return moss_flash_read_jedec_id(AT(SESSION), AT(EVENT));
+    case BUSY: return moss_flash_is_busy(AT(SESSION), AT(EVENT));
+    case PROTECTED: return moss_flash_is_protected(AT(SESSION), AT(EVENT));
+    default: return moss_flash_make_erase_plan(AT(SESSION), address, some_plan_length(), AT(SLOTS), AT(EVENT));
     }
 }
 
@@ -266,8 +266,8 @@ static uint8_t timed_call(int which)
 
 static int is_refusal(uint8_t r)
 {
-    return (r >= FLASH_INVALID_ADDRESS && r <= FLASH_NO_ERASE_INSTRUCTION) || r == FLASH_BAD_SETTING ||
-           r == FLASH_NO_ROOM || r == FLASH_BAD_SESSION;
+    return (r >= MOSS_FLASH_INVALID_ADDRESS && r <= MOSS_FLASH_NO_ERASE_INSTRUCTION) || r == MOSS_FLASH_BAD_SETTING ||
+           r == MOSS_FLASH_NO_ROOM || r == MOSS_FLASH_BAD_SESSION;
 }
 
 static int has_event(int which)
@@ -280,18 +280,18 @@ static int event_stands(const uint8_t *e, uint8_t kind, uint64_t room)
 {
     int i, zero = 1;
 
-    if (flash_event_kind(e) != kind || e[37] || e[38] || e[39])
+    if (moss_flash_event_kind(e) != kind || e[37] || e[38] || e[39])
         return 0;
-    if (kind != FLASH_SEND) {
-        for (i = 1; i < FLASH_EVENT_POLLS; i++)
+    if (kind != MOSS_FLASH_SEND) {
+        for (i = 1; i < MOSS_FLASH_EVENT_POLLS; i++)
             zero &= e[i] == 0;
         return zero;
     }
-    for (i = FLASH_EVENT_HEAD + flash_event_head_length(e); i < FLASH_EVENT_REPLY; i++)
+    for (i = MOSS_FLASH_EVENT_HEAD + moss_flash_event_head_length(e); i < MOSS_FLASH_EVENT_REPLY; i++)
         zero &= e[i] == 0;
-    return zero && flash_event_head_length(e) >= 1 && flash_event_head_length(e) <= FLASH_HEAD_MOST &&
-           flash_event_is_poll(e) <= 1 && flash_event_polls(e) == 0 && flash_event_a(e) == 0 && flash_event_b(e) == 0 &&
-           flash_event_payload_length(e) <= room && flash_event_payload_offset(e) <= room - flash_event_payload_length(e);
+    return zero && moss_flash_event_head_length(e) >= 1 && moss_flash_event_head_length(e) <= MOSS_FLASH_HEAD_MOST &&
+           moss_flash_event_is_poll(e) <= 1 && moss_flash_event_polls(e) == 0 && moss_flash_event_a(e) == 0 && moss_flash_event_b(e) == 0 &&
+           moss_flash_event_payload_length(e) <= room && moss_flash_event_payload_offset(e) <= room - moss_flash_event_payload_length(e);
 }
 
 /* The event record after a call: as it was, or whole. */
@@ -301,17 +301,17 @@ static void check_event(int which, uint8_t r)
     int lends_room = which == STEP || which == PROGRAM || which == WRITE;
 
     if (unchanged(EVENT)) {
-        MUST(r == FLASH_BAD_SESSION || (r == FLASH_NO_ROOM && f->length < FLASH_EVENT_SIZE));
+        MUST(r == MOSS_FLASH_BAD_SESSION || (r == MOSS_FLASH_NO_ROOM && f->length < MOSS_FLASH_EVENT_SIZE));
         return;
     }
-    MUST(f->length >= FLASH_EVENT_SIZE && event_stands(f->at, r, lends_room ? fences[WORK].length : ~(uint64_t)0));
-    MUST(!memcmp(f->at + FLASH_EVENT_SIZE, f->copy + FLASH_EVENT_SIZE, f->length - FLASH_EVENT_SIZE));
+    MUST(f->length >= MOSS_FLASH_EVENT_SIZE && event_stands(f->at, r, lends_room ? fences[WORK].length : ~(uint64_t)0));
+    MUST(!memcmp(f->at + MOSS_FLASH_EVENT_SIZE, f->copy + MOSS_FLASH_EVENT_SIZE, f->length - MOSS_FLASH_EVENT_SIZE));
 }
 
 static void check_buffers(int which, uint8_t r)
 {
     int writes_work = which == STEP || which == PROGRAM || which == WRITE;
-    int writes_slots = (which == PLAN || which == GETTER) && r == FLASH_DONE;
+    int writes_slots = (which == PLAN || which == GETTER) && r == MOSS_FLASH_DONE;
     int writes_session = which != TELL && which != GETTER && which != PLAN;
 
     CHECK(guards_stand() && unchanged(REPLY) && unchanged(DATA));
@@ -323,40 +323,40 @@ static void check_buffers(int which, uint8_t r)
 /* A session that is accepted and whose command is over is packed again as it was, byte for byte. */
 static void check_packed(void)
 {
-    uint8_t s[FLASH_SETTINGS_SIZE] = {0}, copy[FLASH_SESSION_SIZE];
+    uint8_t s[MOSS_FLASH_SETTINGS_SIZE] = {0}, copy[MOSS_FLASH_SESSION_SIZE];
 
     memcpy(copy, fences[SESSION].at, sizeof copy);
     calls += 2;
-    MUST(flash_settings(AT(SESSION), s, sizeof s) == FLASH_DONE && !flash_settings_runs(s));
-    MUST(flash_set_erase_opcode(AT(SESSION), flash_settings_erase_opcode(s)) == FLASH_DONE);
+    MUST(moss_flash_settings(AT(SESSION), s, sizeof s) == MOSS_FLASH_DONE && !moss_flash_settings_runs(s));
+    MUST(moss_flash_set_erase_opcode(AT(SESSION), moss_flash_settings_erase_opcode(s)) == MOSS_FLASH_DONE);
     MUST(!memcmp(copy, fences[SESSION].at, sizeof copy));
 }
 
 /* Keeps what was handed back, which must be accepted and tell the same. */
 static void keep(int which, uint8_t r)
 {
-    uint8_t event[FLASH_EVENT_SIZE];
-    uint8_t told = flash_event(AT(SESSION), event, sizeof event);
+    uint8_t event[MOSS_FLASH_EVENT_SIZE];
+    uint8_t told = moss_flash_event(AT(SESSION), event, sizeof event);
 
     calls++;
-    MUST(told <= FLASH_BAD_SESSION || told == FLASH_SEND);
-    MUST(unchanged(SESSION) || told != FLASH_BAD_SESSION);
-    if (told == FLASH_BAD_SESSION)
+    MUST(told <= MOSS_FLASH_BAD_SESSION || told == MOSS_FLASH_SEND);
+    MUST(unchanged(SESSION) || told != MOSS_FLASH_BAD_SESSION);
+    if (told == MOSS_FLASH_BAD_SESSION)
         return;
     MUST(event_stands(event, told, ~(uint64_t)0));
-    if (r == FLASH_SEND || (which == STEP && !is_refusal(r)))
-        MUST(told == r && (fences[EVENT].length < FLASH_EVENT_SIZE || !memcmp(event, fences[EVENT].at, sizeof event)));
-    if (told != FLASH_SEND)
+    if (r == MOSS_FLASH_SEND || (which == STEP && !is_refusal(r)))
+        MUST(told == r && (fences[EVENT].length < MOSS_FLASH_EVENT_SIZE || !memcmp(event, fences[EVENT].at, sizeof event)));
+    if (told != MOSS_FLASH_SEND)
         check_packed();
-    memcpy(live->session, fences[SESSION].at, FLASH_SESSION_SIZE);
+    memcpy(live->session, fences[SESSION].at, MOSS_FLASH_SESSION_SIZE);
     memcpy(live->event, event, sizeof event);
 }
 
 /* A command that needs more room than is ever lent would never get on. */
 static void renew(void)
 {
-    flash_new(live->session, FLASH_SESSION_SIZE);
-    flash_event(live->session, FLASH_SESSION_SIZE, live->event, FLASH_EVENT_SIZE);
+    moss_flash_new(live->session, MOSS_FLASH_SESSION_SIZE);
+    moss_flash_event(live->session, MOSS_FLASH_SESSION_SIZE, live->event, MOSS_FLASH_EVENT_SIZE);
     calls += 2;
 }
 
@@ -378,18 +378,18 @@ static void one_call(void)
     lend_all();
     remember();
     r = timed_call(which);
-    MUST(r <= FLASH_BAD_SESSION || r == FLASH_SEND);
-    MUST(done != CUT || r == FLASH_BAD_SESSION);
-    MUST(done != RANDOM || r == FLASH_BAD_SESSION || which == NEW);
+    MUST(r <= MOSS_FLASH_BAD_SESSION || r == MOSS_FLASH_SEND);
+    MUST(done != CUT || r == MOSS_FLASH_BAD_SESSION);
+    MUST(done != RANDOM || r == MOSS_FLASH_BAD_SESSION || which == NEW);
     check_buffers(which, r);
     if (has_event(which))
         check_event(which, r);
     /* 13 for bad bytes tells nothing in the event record; 13 because a command runs does, where the record has room. */
-    if (has_event(which) && r == FLASH_BAD_SESSION && done != CHANGED)
-        MUST(unchanged(EVENT) == (done != WHOLE || fences[EVENT].length < FLASH_EVENT_SIZE));
-    if (fences[SESSION].length == FLASH_SESSION_SIZE && (done == WHOLE || below(2)))
+    if (has_event(which) && r == MOSS_FLASH_BAD_SESSION && done != CHANGED)
+        MUST(unchanged(EVENT) == (done != WHOLE || fences[EVENT].length < MOSS_FLASH_EVENT_SIZE));
+    if (fences[SESSION].length == MOSS_FLASH_SESSION_SIZE && (done == WHOLE || below(2)))
         keep(which, r);
-    if (which == STEP && r == FLASH_NO_ROOM && done == WHOLE && below(2))
+    if (which == STEP && r == MOSS_FLASH_NO_ROOM && done == WHOLE && below(2))
         renew();
 }
 
@@ -407,41 +407,41 @@ static void some_settings(struct bounded *b)
     static const uint64_t sizes[] = {1, 5, 64, 256, 1000, 4096};
 
     b->limit = 1 + (uint32_t)below(5);
-    flash_new(lend(SESSION, FLASH_SESSION_SIZE), FLASH_SESSION_SIZE);
-    flash_set_poll_limit(AT(SESSION), b->limit);
-    flash_set_address_bytes(AT(SESSION), (uint8_t)(2 + below(3)));
-    flash_set_page_size(AT(SESSION), pages[below(6)]);
-    flash_set_erase_size(AT(SESSION), sizes[below(6)]);
+    moss_flash_new(lend(SESSION, MOSS_FLASH_SESSION_SIZE), MOSS_FLASH_SESSION_SIZE);
+    moss_flash_set_poll_limit(AT(SESSION), b->limit);
+    moss_flash_set_address_bytes(AT(SESSION), (uint8_t)(2 + below(3)));
+    moss_flash_set_page_size(AT(SESSION), pages[below(6)]);
+    moss_flash_set_erase_size(AT(SESSION), sizes[below(6)]);
     calls += 5;
 }
 
 /* How many pages a write from one address up to another meets. */
 static uint64_t pages_met(uint64_t from, uint64_t to)
 {
-    uint8_t s[FLASH_SETTINGS_SIZE] = {0};
+    uint8_t s[MOSS_FLASH_SETTINGS_SIZE] = {0};
     uint64_t page;
 
-    flash_settings(AT(SESSION), s, sizeof s);
+    moss_flash_settings(AT(SESSION), s, sizeof s);
     calls++;
-    page = flash_settings_page_size(s) ? flash_settings_page_size(s) : 256;
+    page = moss_flash_settings_page_size(s) ? moss_flash_settings_page_size(s) : 256;
     return from < to ? (to - 1) / page - from / page + 1 : 0;
 }
 
 /* The plan's entries, and its span. */
 static uint64_t entries_of(const struct bounded *b, uint64_t *from, uint64_t *to)
 {
-    static uint8_t slots[MOST * FLASH_ENTRY_SIZE];
-    uint8_t event[FLASH_EVENT_SIZE] = {0};
+    static uint8_t slots[MOST * MOSS_FLASH_ENTRY_SIZE];
+    uint8_t event[MOSS_FLASH_EVENT_SIZE] = {0};
     uint8_t *last;
 
     calls++;
     *from = *to = 0;
-    if (flash_make_erase_plan(AT(SESSION), b->address, b->length, slots, sizeof slots, event, sizeof event))
+    if (moss_flash_make_erase_plan(AT(SESSION), b->address, b->length, slots, sizeof slots, event, sizeof event))
         return 0;
-    last = slots + (flash_event_count(event) - 1) * FLASH_ENTRY_SIZE;
-    *from = flash_entry_base(slots);
-    *to = (uint64_t)flash_entry_base(last) + flash_entry_size(last);
-    return flash_event_count(event);
+    last = slots + (moss_flash_event_count(event) - 1) * MOSS_FLASH_ENTRY_SIZE;
+    *from = moss_flash_entry_base(slots);
+    *to = (uint64_t)moss_flash_entry_base(last) + moss_flash_entry_size(last);
+    return moss_flash_event_count(event);
 }
 
 static uint8_t start_bounded(struct bounded *b)
@@ -455,25 +455,25 @@ static uint8_t start_bounded(struct bounded *b)
     entries = entries_of(b, &from, &to);
     lend(DATA, (size_t)b->length);
     lend(WORK, MOST);
-    lend(EVENT, FLASH_EVENT_SIZE);
+    lend(EVENT, MOSS_FLASH_EVENT_SIZE);
     calls++;
     switch (b->which) {
-    case READ: b->most = 1; return flash_read(AT(SESSION), b->address, b->length, MOST, AT(EVENT));
-    case PARAMS: b->most = 3; return flash_read_params(AT(SESSION), MOST, AT(EVENT));
-    case ERASE: b->most = 2 + b->limit; return flash_erase(AT(SESSION), AT(EVENT));
+    case READ: b->most = 1; return moss_flash_read(AT(SESSION), b->address, b->length, MOST, AT(EVENT));
+    case PARAMS: b->most = 3; return moss_flash_read_params(AT(SESSION), MOST, AT(EVENT));
+    case ERASE: b->most = 2 + b->limit; return moss_flash_erase(AT(SESSION), AT(EVENT));
     case SECTORS:
         b->most = entries * (2 + b->limit);
-        return flash_erase_sectors(AT(SESSION), b->address, b->length, AT(EVENT));
+        return moss_flash_erase_sectors(AT(SESSION), b->address, b->length, AT(EVENT));
     case PROGRAM:
         b->most = 4 + (entries + pages_met(from, to)) * (2 + b->limit);
-        return flash_program(AT(SESSION), b->address, AT(DATA), (uint8_t)below(2), AT(WORK), AT(EVENT));
+        return moss_flash_program(AT(SESSION), b->address, AT(DATA), (uint8_t)below(2), AT(WORK), AT(EVENT));
     case WRITE:
         b->most = pages_met(b->address, b->address + b->length) * (2 + b->limit);
-        return flash_program_data(AT(SESSION), b->address, AT(DATA), AT(WORK), AT(EVENT));
-    case RESET: b->most = 2; return flash_reset(AT(SESSION), AT(EVENT));
-    case ID: b->most = 2; return flash_read_jedec_id(AT(SESSION), AT(EVENT));
-    case BUSY: b->most = 1; return flash_is_busy(AT(SESSION), AT(EVENT));
-    default: b->most = 1; return flash_is_protected(AT(SESSION), AT(EVENT));
+        return moss_flash_program_data(AT(SESSION), b->address, AT(DATA), AT(WORK), AT(EVENT));
+    case RESET: b->most = 2; return moss_flash_reset(AT(SESSION), AT(EVENT));
+    case ID: b->most = 2; return moss_flash_read_jedec_id(AT(SESSION), AT(EVENT));
+    case BUSY: b->most = 1; return moss_flash_is_busy(AT(SESSION), AT(EVENT));
+    default: b->most = 1; return moss_flash_is_protected(AT(SESSION), AT(EVENT));
     }
 }
 
@@ -483,15 +483,15 @@ static uint8_t step_bounded(struct live *l)
     uint8_t status = (uint8_t)(below(4) ? 0x80 : 0x01);
     uint8_t now;
 
-    memcpy(l->event, fences[EVENT].at, FLASH_EVENT_SIZE);
+    memcpy(l->event, fences[EVENT].at, MOSS_FLASH_EVENT_SIZE);
     live = l;
     lend_reply();
-    if (flash_event_reply(l->event) < MOST)
-        lend(REPLY, (size_t)flash_event_reply(l->event));
-    if (flash_event_is_poll(l->event))
+    if (moss_flash_event_reply(l->event) < MOST)
+        lend(REPLY, (size_t)moss_flash_event_reply(l->event));
+    if (moss_flash_event_is_poll(l->event))
         fences[REPLY].at[0] = status;
     calls++;
-    now = flash_step(AT(SESSION), below(500) == 0, AT(REPLY), AT(WORK), AT(EVENT));
+    now = moss_flash_step(AT(SESSION), below(500) == 0, AT(REPLY), AT(WORK), AT(EVENT));
     results[now]++;
     return now;
 }
@@ -505,13 +505,13 @@ static void one_command(void)
 
     some_settings(&b);
     now = start_bounded(&b);
-    while (now == FLASH_SEND && sent <= b.most) {
-        polls += flash_event_is_poll(fences[EVENT].at);
+    while (now == MOSS_FLASH_SEND && sent <= b.most) {
+        polls += moss_flash_event_is_poll(fences[EVENT].at);
         sent++;
         now = step_bounded(&l);
     }
-    CHECK(now <= FLASH_BAD_SESSION && sent <= b.most);
-    MUST(flash_event_polls(fences[EVENT].at) == polls);
+    CHECK(now <= MOSS_FLASH_BAD_SESSION && sent <= b.most);
+    MUST(moss_flash_event_polls(fences[EVENT].at) == polls);
     MUST(!is_refusal(now) || sent == 0);
 }
 
@@ -521,9 +521,9 @@ static void show_results(void)
     int i;
 
     printf("fuzz: results");
-    for (i = 0; i <= FLASH_BAD_SESSION; i++)
+    for (i = 0; i <= MOSS_FLASH_BAD_SESSION; i++)
         printf(" %d: %lu,", i, results[i]);
-    printf(" send: %lu\n", results[FLASH_SEND]);
+    printf(" send: %lu\n", results[MOSS_FLASH_SEND]);
 }
 
 int main(int argc, char **argv)
@@ -538,8 +538,8 @@ int main(int argc, char **argv)
         lend(i, 0);
     }
     for (i = 0; i < POOL; i++) {
-        flash_new(pool[i].session, FLASH_SESSION_SIZE);
-        flash_event(pool[i].session, FLASH_SESSION_SIZE, pool[i].event, FLASH_EVENT_SIZE);
+        moss_flash_new(pool[i].session, MOSS_FLASH_SESSION_SIZE);
+        moss_flash_event(pool[i].session, MOSS_FLASH_SESSION_SIZE, pool[i].event, MOSS_FLASH_EVENT_SIZE);
     }
     while (calls < count) {
         one_call();

@@ -8,14 +8,14 @@
 #include <ucontext.h>
 
 #include "sim_part.h"
-#include "spi_flash.h"
+#include "moss_flash.h"
 
 #define STACK 262144
 #define PAINT 0xA5
 #define CAPACITY 1048576
 
-static uint8_t stack[STACK], memory[CAPACITY], work[65536], reply[65536], slots[64 * FLASH_ENTRY_SIZE], data[300];
-static uint8_t session[FLASH_SESSION_SIZE], event[FLASH_EVENT_SIZE], settings[FLASH_SETTINGS_SIZE];
+static uint8_t stack[STACK], memory[CAPACITY], work[65536], reply[65536], slots[64 * MOSS_FLASH_ENTRY_SIZE], data[300];
+static uint8_t session[MOSS_FLASH_SESSION_SIZE], event[MOSS_FLASH_EVENT_SIZE], settings[MOSS_FLASH_SETTINGS_SIZE];
 static struct sim_part part;
 static ucontext_t here, there;
 static void (*called)(void);
@@ -26,37 +26,37 @@ static size_t reply_len;
 #define EVENT event, sizeof event
 
 static void nothing(void) { result = 0; }
-static void new_session(void) { result = flash_new(SESSION); }
-static void set_address_bytes(void) { result = flash_set_address_bytes(SESSION, 3); }
-static void set_page_size(void) { result = flash_set_page_size(SESSION, 256); }
-static void set_erase_size(void) { result = flash_set_erase_size(SESSION, 4096); }
-static void set_erase_opcode(void) { result = flash_set_erase_opcode(SESSION, 0x20); }
-static void set_poll_limit(void) { result = flash_set_poll_limit(SESSION, 100); }
-static void set_capacity(void) { result = flash_set_capacity(SESSION, CAPACITY); }
-static void clear_capacity(void) { result = flash_clear_capacity(SESSION); }
-static void get_settings(void) { result = flash_settings(SESSION, settings, sizeof settings); }
-static void tell(void) { result = flash_event(SESSION, EVENT); }
-static void read_bytes(void) { result = flash_read(SESSION, 100, 5000, sizeof work, EVENT); }
-static void legacy_read(void) { result = flash_legacy_read(SESSION, 100, 5000, sizeof work, EVENT); }
-static void read_params(void) { result = flash_read_params(SESSION, sizeof work, EVENT); }
-static void erase(void) { result = flash_erase(SESSION, EVENT); }
-static void erase_sectors(void) { result = flash_erase_sectors(SESSION, 65536 - 4096, 8192, EVENT); }
-static void reset(void) { result = flash_reset(SESSION, EVENT); }
-static void read_id(void) { result = flash_read_jedec_id(SESSION, EVENT); }
-static void is_busy(void) { result = flash_is_busy(SESSION, EVENT); }
-static void is_protected(void) { result = flash_is_protected(SESSION, EVENT); }
-static void plan(void) { result = flash_make_erase_plan(SESSION, 100, 200000, slots, sizeof slots, EVENT); }
+static void new_session(void) { result = moss_flash_new(SESSION); }
+static void set_address_bytes(void) { result = moss_flash_set_address_bytes(SESSION, 3); }
+static void set_page_size(void) { result = moss_flash_set_page_size(SESSION, 256); }
+static void set_erase_size(void) { result = moss_flash_set_erase_size(SESSION, 4096); }
+static void set_erase_opcode(void) { result = moss_flash_set_erase_opcode(SESSION, 0x20); }
+static void set_poll_limit(void) { result = moss_flash_set_poll_limit(SESSION, 100); }
+static void set_capacity(void) { result = moss_flash_set_capacity(SESSION, CAPACITY); }
+static void clear_capacity(void) { result = moss_flash_clear_capacity(SESSION); }
+static void get_settings(void) { result = moss_flash_settings(SESSION, settings, sizeof settings); }
+static void tell(void) { result = moss_flash_event(SESSION, EVENT); }
+static void read_bytes(void) { result = moss_flash_read(SESSION, 100, 5000, sizeof work, EVENT); }
+static void legacy_read(void) { result = moss_flash_legacy_read(SESSION, 100, 5000, sizeof work, EVENT); }
+static void read_params(void) { result = moss_flash_read_params(SESSION, sizeof work, EVENT); }
+static void erase(void) { result = moss_flash_erase(SESSION, EVENT); }
+static void erase_sectors(void) { result = moss_flash_erase_sectors(SESSION, 65536 - 4096, 8192, EVENT); }
+static void reset(void) { result = moss_flash_reset(SESSION, EVENT); }
+static void read_id(void) { result = moss_flash_read_jedec_id(SESSION, EVENT); }
+static void is_busy(void) { result = moss_flash_is_busy(SESSION, EVENT); }
+static void is_protected(void) { result = moss_flash_is_protected(SESSION, EVENT); }
+static void plan(void) { result = moss_flash_make_erase_plan(SESSION, 100, 200000, slots, sizeof slots, EVENT); }
 static void program(void)
 {
-    result = flash_program(SESSION, 65400, data, sizeof data, 1, work, sizeof work, EVENT);
+    result = moss_flash_program(SESSION, 65400, data, sizeof data, 1, work, sizeof work, EVENT);
 }
 static void program_data(void)
 {
-    result = flash_program_data(SESSION, 200, data, sizeof data, work, sizeof work, EVENT);
+    result = moss_flash_program_data(SESSION, 200, data, sizeof data, work, sizeof work, EVENT);
 }
 static void step(void)
 {
-    result = flash_step(SESSION, 0, reply, reply_len, work, sizeof work, EVENT);
+    result = moss_flash_step(SESSION, 0, reply, reply_len, work, sizeof work, EVENT);
 }
 
 static void enter(void)
@@ -88,17 +88,17 @@ struct measured {
     size_t most;
 };
 
-/* flash_step stands first: every command is carried on by it. */
+/* moss_flash_step stands first: every command is carried on by it. */
 static struct measured exports[] = {
-    {"flash_step", step, 0}, {"flash_new", new_session, 0}, {"flash_set_address_bytes", set_address_bytes, 0},
-    {"flash_set_page_size", set_page_size, 0}, {"flash_set_erase_size", set_erase_size, 0},
-    {"flash_set_erase_opcode", set_erase_opcode, 0}, {"flash_set_poll_limit", set_poll_limit, 0},
-    {"flash_clear_capacity", clear_capacity, 0}, {"flash_set_capacity", set_capacity, 0},
-    {"flash_read_params", read_params, 0}, {"flash_settings", get_settings, 0}, {"flash_event", tell, 0},
-    {"flash_read", read_bytes, 0}, {"flash_legacy_read", legacy_read, 0}, {"flash_erase", erase, 0},
-    {"flash_erase_sectors", erase_sectors, 0}, {"flash_program", program, 0}, {"flash_program_data", program_data, 0},
-    {"flash_reset", reset, 0}, {"flash_read_jedec_id", read_id, 0}, {"flash_is_busy", is_busy, 0},
-    {"flash_is_protected", is_protected, 0}, {"flash_make_erase_plan", plan, 0},
+    {"moss_flash_step", step, 0}, {"moss_flash_new", new_session, 0}, {"moss_flash_set_address_bytes", set_address_bytes, 0},
+    {"moss_flash_set_page_size", set_page_size, 0}, {"moss_flash_set_erase_size", set_erase_size, 0},
+    {"moss_flash_set_erase_opcode", set_erase_opcode, 0}, {"moss_flash_set_poll_limit", set_poll_limit, 0},
+    {"moss_flash_clear_capacity", clear_capacity, 0}, {"moss_flash_set_capacity", set_capacity, 0},
+    {"moss_flash_read_params", read_params, 0}, {"moss_flash_settings", get_settings, 0}, {"moss_flash_event", tell, 0},
+    {"moss_flash_read", read_bytes, 0}, {"moss_flash_legacy_read", legacy_read, 0}, {"moss_flash_erase", erase, 0},
+    {"moss_flash_erase_sectors", erase_sectors, 0}, {"moss_flash_program", program, 0}, {"moss_flash_program_data", program_data, 0},
+    {"moss_flash_reset", reset, 0}, {"moss_flash_read_jedec_id", read_id, 0}, {"moss_flash_is_busy", is_busy, 0},
+    {"moss_flash_is_protected", is_protected, 0}, {"moss_flash_make_erase_plan", plan, 0},
 };
 
 #define EXPORTS (sizeof exports / sizeof exports[0])
@@ -114,10 +114,10 @@ static void measure(struct measured *m, size_t base)
 /* Carries what was begun on to its answer. */
 static void carry_on(size_t base)
 {
-    while (result == FLASH_SEND) {
-        reply_len = (size_t)flash_event_reply(event);
-        sim_exchange(&part, flash_event_head(event), flash_event_head_length(event),
-                     work + flash_event_payload_offset(event), (size_t)flash_event_payload_length(event), reply, reply_len);
+    while (result == MOSS_FLASH_SEND) {
+        reply_len = (size_t)moss_flash_event_reply(event);
+        sim_exchange(&part, moss_flash_event_head(event), moss_flash_event_head_length(event),
+                     work + moss_flash_event_payload_offset(event), (size_t)moss_flash_event_payload_length(event), reply, reply_len);
         measure(&exports[0], base);
     }
 }
@@ -136,7 +136,7 @@ int main(void)
             memory[i * 4096 + 9] = 0;
             measure(&exports[i], base);
             carry_on(base);
-            failed += result != FLASH_DONE;
+            failed += result != MOSS_FLASH_DONE;
         }
     for (i = 0; i < EXPORTS; i++) {
         printf("  %-26s %6zu\n", exports[i].name, exports[i].most);

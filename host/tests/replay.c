@@ -57,9 +57,9 @@ struct run {
     uint32_t count, row, waits;
     uint64_t kept;       /* bytes written so far */
     uint8_t written[ROOM];
-    uint8_t session[FLASH_SESSION_SIZE];
-    uint8_t before[FLASH_SESSION_SIZE];
-    uint8_t event[FLASH_EVENT_SIZE];
+    uint8_t session[MOSS_FLASH_SESSION_SIZE];
+    uint8_t before[MOSS_FLASH_SESSION_SIZE];
+    uint8_t event[MOSS_FLASH_EVENT_SIZE];
     struct room work;
     uint8_t reply[ROOM + 8];
     uint32_t digest;
@@ -74,8 +74,8 @@ static uint8_t mix(uint32_t seed, uint32_t i, uint64_t j)
 
 static int is_status(const uint8_t *event)
 {
-    uint8_t opcode = flash_event_head(event)[0];
-    return flash_event_reply(event) == 1 && (opcode == 0x05 || opcode == 0x70);
+    uint8_t opcode = moss_flash_event_head(event)[0];
+    return moss_flash_event_reply(event) == 1 && (opcode == 0x05 || opcode == 0x70);
 }
 
 static uint32_t waits_now(const struct run *r)
@@ -88,14 +88,14 @@ static uint8_t status(const struct run *r, uint8_t m)
     int stuck = byte_at(r->s, 42) < waits_now(r);
     int busy = stuck || r->row < byte_at(r->s, 41);
 
-    if (flash_event_head(r->event)[0] == 0x05)
+    if (moss_flash_event_head(r->event)[0] == 0x05)
         return (uint8_t)(m / 2 * 2 + busy);
     return (uint8_t)(m % 128 + (busy ? 0 : 128));
 }
 
 static uint8_t area_byte(const struct run *r, uint64_t j)
 {
-    const uint8_t *head = flash_event_head(r->event);
+    const uint8_t *head = moss_flash_event_head(r->event);
     uint64_t at = (uint64_t)head[1] << 16 | (uint64_t)head[2] << 8 | head[3];
     uint8_t value = at + j < 128 ? r->s[128 + at + j] : 0xFF;
 
@@ -110,7 +110,7 @@ static uint8_t echo(const struct run *r, uint64_t j)
 
 static uint8_t memory_byte(const struct run *r, uint64_t j, uint8_t m)
 {
-    uint64_t reply = flash_event_reply(r->event);
+    uint64_t reply = moss_flash_event_reply(r->event);
 
     switch (byte_at(r->s, 40)) {
     case 0: return m;
@@ -123,7 +123,7 @@ static uint8_t memory_byte(const struct run *r, uint64_t j, uint8_t m)
 static uint8_t reply_byte(const struct run *r, uint64_t j)
 {
     uint8_t m = mix(number_at(r->s, 36), r->count, j);
-    uint8_t opcode = flash_event_head(r->event)[0];
+    uint8_t opcode = moss_flash_event_head(r->event)[0];
 
     if (is_status(r->event))
         return status(r, m);
@@ -142,7 +142,7 @@ static uint32_t fault(const struct run *r)
 
 static size_t reply_length(const struct run *r)
 {
-    uint64_t wanted = flash_event_reply(r->event);
+    uint64_t wanted = moss_flash_event_reply(r->event);
     uint64_t given = fault(r) == 2 && wanted ? wanted - 1 : fault(r) == 3 ? wanted + 1 : wanted;
 
     return (size_t)(given < sizeof r->reply ? given : sizeof r->reply);
@@ -157,7 +157,7 @@ static void advance(struct run *r, const uint8_t *payload, uint64_t length)
     } else {
         r->row = 0;
     }
-    if (flash_event_head(r->event)[0] == 0x02 && flash_event_reply(r->event) == 0)
+    if (moss_flash_event_head(r->event)[0] == 0x02 && moss_flash_event_reply(r->event) == 0)
         for (; length > 0; length--)
             r->written[r->kept++ % ROOM] = *payload++;
     r->count++;
@@ -167,19 +167,19 @@ static void advance(struct run *r, const uint8_t *payload, uint64_t length)
 static uint8_t turn(struct run *r)
 {
     const uint8_t *e = r->event;
-    uint64_t length = flash_event_payload_length(e);
-    const uint8_t *payload = r->work.bytes + flash_event_payload_offset(e);
+    uint64_t length = moss_flash_event_payload_length(e);
+    const uint8_t *payload = r->work.bytes + moss_flash_event_payload_offset(e);
     int failed = fault(r) == 1;
     size_t n = reply_length(r), j;
 
     for (j = 0; j < n; j++)
         r->reply[j] = reply_byte(r, j);
-    r->digest = fold_bytes(r->digest, flash_event_head(e), flash_event_head_length(e));
+    r->digest = fold_bytes(r->digest, moss_flash_event_head(e), moss_flash_event_head_length(e));
     r->digest = fold_bytes(r->digest, payload, (size_t)length);
-    r->digest = fold(r->digest, flash_event_head_length(e) + length);
-    r->digest = fold(fold(r->digest, flash_event_reply(e)), failed ? 0 : flash_event_delay(e));
+    r->digest = fold(r->digest, moss_flash_event_head_length(e) + length);
+    r->digest = fold(fold(r->digest, moss_flash_event_reply(e)), failed ? 0 : moss_flash_event_delay(e));
     advance(r, payload, length);
-    return flash_step(r->session, sizeof r->session, (uint8_t)failed, r->reply, n, r->work.bytes, r->work.length, r->event,
+    return moss_flash_step(r->session, sizeof r->session, (uint8_t)failed, r->reply, n, r->work.bytes, r->work.length, r->event,
                       sizeof r->event);
 }
 
@@ -193,7 +193,7 @@ static void play(struct run *r, uint8_t begun, int plain)
     r->count = r->row = r->waits = 0;
     r->kept = 0;
     r->digest = 0;
-    for (turns = 0; now == FLASH_SEND && turns < 255; turns++)
+    for (turns = 0; now == MOSS_FLASH_SEND && turns < 255; turns++)
         now = turn(r);
 }
 
@@ -204,22 +204,22 @@ static void set_up(struct run *r)
     const uint8_t *s = r->s;
     uint8_t *p = r->session;
 
-    flash_new(p, RECORD);
+    moss_flash_new(p, RECORD);
     if (byte_at(s, 1))
-        play(r, flash_read_params(p, 256, ROOM, r->event, sizeof r->event), 1);
+        play(r, moss_flash_read_params(p, 256, ROOM, r->event, sizeof r->event), 1);
     if (byte_at(s, 2))
-        flash_set_address_bytes(p, 256, (uint8_t)byte_at(s, 2));
-    flash_set_poll_limit(p, 256, byte_at(s, 7));
+        moss_flash_set_address_bytes(p, 256, (uint8_t)byte_at(s, 2));
+    moss_flash_set_poll_limit(p, 256, byte_at(s, 7));
     if (byte_at(s, 3) == 1)
-        flash_set_capacity(p, 256, long_at(s, 20));
+        moss_flash_set_capacity(p, 256, long_at(s, 20));
     if (byte_at(s, 3) == 2)
-        flash_clear_capacity(p, 256);
+        moss_flash_clear_capacity(p, 256);
     if (number_at(s, 28))
-        flash_set_page_size(p, 256, number_at(s, 28));
+        moss_flash_set_page_size(p, 256, number_at(s, 28));
     if (number_at(s, 32))
-        flash_set_erase_size(p, 256, number_at(s, 32));
+        moss_flash_set_erase_size(p, 256, number_at(s, 32));
     if (byte_at(s, 4))
-        flash_set_erase_opcode(p, 256, (uint8_t)byte_at(s, 5));
+        moss_flash_set_erase_opcode(p, 256, (uint8_t)byte_at(s, 5));
     memcpy(r->before, p, 256);
 }
 
@@ -235,18 +235,18 @@ static uint8_t start(struct run *r)
     for (j = 0; j < sizeof data; j++)
         data[j] = (uint8_t)(mix(number_at(s, 36), 255, j) + 1);
     switch (byte_at(s, 0)) {
-    case KIND_READ: return flash_read(p, 256, address, length, ROOM, e, 64);
-    case KIND_LEGACY: return flash_legacy_read(p, 256, address, length, ROOM, e, 64);
-    case KIND_PARAMS: return flash_read_params(p, 256, ROOM, e, 64);
-    case KIND_ERASE: return flash_erase(p, 256, e, 64);
-    case KIND_SECTORS: return flash_erase_sectors(p, 256, address, length, e, 64);
+    case KIND_READ: return moss_flash_read(p, 256, address, length, ROOM, e, 64);
+    case KIND_LEGACY: return moss_flash_legacy_read(p, 256, address, length, ROOM, e, 64);
+    case KIND_PARAMS: return moss_flash_read_params(p, 256, ROOM, e, 64);
+    case KIND_ERASE: return moss_flash_erase(p, 256, e, 64);
+    case KIND_SECTORS: return moss_flash_erase_sectors(p, 256, address, length, e, 64);
     case KIND_PROGRAM:
-        return flash_program(p, 256, address, data, (size_t)length, (uint8_t)byte_at(s, 6), r->work.bytes, ROOM, e, 64);
-    case KIND_DATA: return flash_program_data(p, 256, address, data, (size_t)length, r->work.bytes, ROOM, e, 64);
-    case KIND_RESET: return flash_reset(p, 256, e, 64);
-    case KIND_ID: return flash_read_jedec_id(p, 256, e, 64);
-    case KIND_BUSY: return flash_is_busy(p, 256, e, 64);
-    default: return flash_is_protected(p, 256, e, 64);
+        return moss_flash_program(p, 256, address, data, (size_t)length, (uint8_t)byte_at(s, 6), r->work.bytes, ROOM, e, 64);
+    case KIND_DATA: return moss_flash_program_data(p, 256, address, data, (size_t)length, r->work.bytes, ROOM, e, 64);
+    case KIND_RESET: return moss_flash_reset(p, 256, e, 64);
+    case KIND_ID: return moss_flash_read_jedec_id(p, 256, e, 64);
+    case KIND_BUSY: return moss_flash_is_busy(p, 256, e, 64);
+    default: return moss_flash_is_protected(p, 256, e, 64);
     }
 }
 
@@ -255,7 +255,7 @@ static uint8_t start(struct run *r)
 struct outcome {
     uint32_t number, value, first, second, third, data;
     uint64_t polls;
-    uint8_t settings[FLASH_SETTINGS_SIZE];
+    uint8_t settings[MOSS_FLASH_SETTINGS_SIZE];
 };
 
 static void values_of(const struct run *r, struct outcome *o)
@@ -263,20 +263,20 @@ static void values_of(const struct run *r, struct outcome *o)
     const uint8_t *e = r->event;
     uint32_t kind = byte_at(r->s, 0);
 
-    if (o->number == FLASH_READBACK_ERROR) {
-        o->value = flash_event_address(e);
-        o->first = flash_event_wrote(e);
-        o->second = flash_event_read(e);
+    if (o->number == MOSS_FLASH_READBACK_ERROR) {
+        o->value = moss_flash_event_address(e);
+        o->first = moss_flash_event_wrote(e);
+        o->second = moss_flash_event_read(e);
     }
-    if (o->number == FLASH_INVALID_ADDRESS)
-        o->value = flash_event_address(e);
-    if (o->number == FLASH_DONE && kind == KIND_ID) {
-        o->first = flash_event_bank(e);
-        o->second = flash_event_manufacturer(e);
-        o->third = flash_event_device(e);
+    if (o->number == MOSS_FLASH_INVALID_ADDRESS)
+        o->value = moss_flash_event_address(e);
+    if (o->number == MOSS_FLASH_DONE && kind == KIND_ID) {
+        o->first = moss_flash_event_bank(e);
+        o->second = moss_flash_event_manufacturer(e);
+        o->third = moss_flash_event_device(e);
     }
-    if (o->number == FLASH_DONE && (kind == KIND_BUSY || kind == KIND_PROTECTED))
-        o->first = flash_event_yes(e);
+    if (o->number == MOSS_FLASH_DONE && (kind == KIND_BUSY || kind == KIND_PROTECTED))
+        o->first = moss_flash_event_yes(e);
 }
 
 static struct outcome outcome_of(const struct run *r)
@@ -285,12 +285,12 @@ static struct outcome outcome_of(const struct run *r)
     size_t length = (size_t)long_at(r->s, 12);
 
     memset(&o, 0, sizeof o);
-    o.number = flash_event_kind(r->event) == FLASH_SEND ? 253 : flash_event_kind(r->event);
-    o.polls = flash_event_polls(r->event);
+    o.number = moss_flash_event_kind(r->event) == MOSS_FLASH_SEND ? 253 : moss_flash_event_kind(r->event);
+    o.polls = moss_flash_event_polls(r->event);
     values_of(r, &o);
-    if (o.number == FLASH_DONE && byte_at(r->s, 0) <= KIND_LEGACY)
+    if (o.number == MOSS_FLASH_DONE && byte_at(r->s, 0) <= KIND_LEGACY)
         o.data = fold(fold_bytes(0, r->work.bytes, length), length);
-    flash_settings(r->session, sizeof r->session, o.settings, sizeof o.settings);
+    moss_flash_settings(r->session, sizeof r->session, o.settings, sizeof o.settings);
     return o;
 }
 
@@ -301,9 +301,9 @@ static uint32_t summary(const struct run *r, const struct outcome *o)
     uint32_t d = fold(fold(fold(fold(fold(0, o->number), o->value), o->first), o->second), o->third);
 
     d = fold(fold(fold(fold(d, r->count), o->polls), r->digest), o->data);
-    d = fold(fold(d, flash_settings_address_bytes(t)), flash_settings_capacity_set(t));
-    d = fold(fold(d, flash_settings_capacity(t)), flash_settings_capacity(t) >> 32);
-    return fold(fold(fold(d, flash_settings_page_size(t)), flash_settings_erase_size(t)), flash_settings_erase_opcode(t));
+    d = fold(fold(d, moss_flash_settings_address_bytes(t)), moss_flash_settings_capacity_set(t));
+    d = fold(fold(d, moss_flash_settings_capacity(t)), moss_flash_settings_capacity(t) >> 32);
+    return fold(fold(fold(d, moss_flash_settings_page_size(t)), moss_flash_settings_erase_size(t)), moss_flash_settings_erase_opcode(t));
 }
 
 static int same_answer(const uint8_t *s, const struct outcome *o)
@@ -320,9 +320,9 @@ static int same_wire(const struct run *r, const struct outcome *o)
 /* The settings but for the erase opcode. */
 static int same_settings(const uint8_t *s, const uint8_t *t)
 {
-    return flash_settings_address_bytes(t) == byte_at(s, 92) && flash_settings_capacity_set(t) == byte_at(s, 93) &&
-           flash_settings_page_size(t) == number_at(s, 96) && flash_settings_capacity(t) == long_at(s, 100) &&
-           flash_settings_erase_size(t) == number_at(s, 108);
+    return moss_flash_settings_address_bytes(t) == byte_at(s, 92) && moss_flash_settings_capacity_set(t) == byte_at(s, 93) &&
+           moss_flash_settings_page_size(t) == number_at(s, 96) && moss_flash_settings_capacity(t) == long_at(s, 100) &&
+           moss_flash_settings_erase_size(t) == number_at(s, 108);
 }
 
 /* ---- the classes */
@@ -341,11 +341,11 @@ static int given(int holds, int class)
 /* Whether document 01 refuses a range. */
 static int is_refused(const uint8_t *t, uint64_t address, uint64_t length)
 {
-    uint64_t reach = (uint64_t)1 << 8 * flash_settings_address_bytes(t);
+    uint64_t reach = (uint64_t)1 << 8 * moss_flash_settings_address_bytes(t);
 
     if (length == 0 || length > reach || address + length > reach)
         return 1;
-    return flash_settings_capacity_set(t) && address + length > flash_settings_capacity(t);
+    return moss_flash_settings_capacity_set(t) && address + length > moss_flash_settings_capacity(t);
 }
 
 static int range_class(const uint8_t *s, const uint8_t *t)
@@ -356,7 +356,7 @@ static int range_class(const uint8_t *s, const uint8_t *t)
         return R2;
     if (~(uint64_t)0 - length < address)
         return R3;
-    return given(address == 0 && length - 1 == (uint64_t)1 << 8 * flash_settings_address_bytes(t), R1);
+    return given(address == 0 && length - 1 == (uint64_t)1 << 8 * moss_flash_settings_address_bytes(t), R1);
 }
 
 static int ends_at_top(const uint8_t *s)
@@ -436,23 +436,23 @@ static int params_class(const uint8_t *s)
 /* Whether a write ends in its first page, which it does not start. */
 static int ends_in_page(const uint8_t *t, uint32_t address, uint64_t length)
 {
-    uint64_t page = flash_settings_page_size(t) ? flash_settings_page_size(t) : 256;
+    uint64_t page = moss_flash_settings_page_size(t) ? moss_flash_settings_page_size(t) : 256;
     return address % page && length < page - address % page;
 }
 
 /* Whether a program writes in the first page alone. */
 static int is_c8(const struct run *r, const uint8_t *t)
 {
-    uint8_t slots[64 * FLASH_ENTRY_SIZE], event[FLASH_EVENT_SIZE];
+    uint8_t slots[64 * MOSS_FLASH_ENTRY_SIZE], event[MOSS_FLASH_EVENT_SIZE];
     uint64_t end = (uint64_t)number_at(r->s, 8) + long_at(r->s, 12);
     const uint8_t *last;
 
-    if (flash_make_erase_plan(r->before, 256, number_at(r->s, 8), long_at(r->s, 12), slots, sizeof slots, event, 64))
+    if (moss_flash_make_erase_plan(r->before, 256, number_at(r->s, 8), long_at(r->s, 12), slots, sizeof slots, event, 64))
         return 0;
-    last = slots + (flash_event_count(event) - 1) * FLASH_ENTRY_SIZE;
+    last = slots + (moss_flash_event_count(event) - 1) * MOSS_FLASH_ENTRY_SIZE;
     if (byte_at(r->s, 40) != 1)
-        end = (uint64_t)flash_entry_base(last) + flash_entry_size(last);
-    return ends_in_page(t, flash_entry_base(slots), end - flash_entry_base(slots));
+        end = (uint64_t)moss_flash_entry_base(last) + moss_flash_entry_size(last);
+    return ends_in_page(t, moss_flash_entry_base(slots), end - moss_flash_entry_base(slots));
 }
 
 static int sectors_class(const uint8_t *s)
@@ -496,7 +496,7 @@ static int run_class(const struct run *r, const struct outcome *o, const uint8_t
         return C9;
     if (byte_at(s, 64) == STUCK)
         return given(o->number == 9 && same_wire(r, o) && same_settings(s, o->settings) &&
-                     flash_settings_erase_opcode(o->settings) == byte_at(s, 94), C10);
+                     moss_flash_settings_erase_opcode(o->settings) == byte_at(s, 94), C10);
     switch (byte_at(s, 0)) {
     case KIND_PARAMS: return params_class(s);
     case KIND_SECTORS: return sectors_class(s);
@@ -511,9 +511,9 @@ static int differs(const struct run *r, const struct outcome *o)
     const uint8_t *s = r->s;
     uint32_t kind = byte_at(s, 0);
     int ranged = kind <= KIND_LEGACY || (kind >= KIND_SECTORS && kind <= KIND_DATA);
-    uint8_t t[FLASH_SETTINGS_SIZE];
+    uint8_t t[MOSS_FLASH_SETTINGS_SIZE];
 
-    flash_settings(r->before, 256, t, sizeof t);
+    moss_flash_settings(r->before, 256, t, sizeof t);
     if (same_answer(s, o) && same_wire(r, o) && same_settings(s, o->settings))
         return given(smallest_twice(s), S7);
     if (ranged && is_refused(t, number_at(s, 8), long_at(s, 12))) {
@@ -534,7 +534,7 @@ static int class_of(const struct run *r, const struct outcome *o)
     if (summary(r, o) != number_at(r->s, 124))
         return WRONG;
     if (same_answer(r->s, o) && same_wire(r, o) && same_settings(r->s, o->settings) &&
-        flash_settings_erase_opcode(o->settings) == byte_at(r->s, 94))
+        moss_flash_settings_erase_opcode(o->settings) == byte_at(r->s, 94))
         return SAME;
     return differs(r, o);
 }

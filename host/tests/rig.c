@@ -99,7 +99,7 @@ void rig_make(struct rig *g, size_t capacity, size_t room)
         abort();
     room_make(&g->work, room, 0x5A);
     sim_init(&g->part, g->memory, capacity);
-    MUST(flash_new(g->session, sizeof g->session) == FLASH_DONE);
+    MUST(moss_flash_new(g->session, sizeof g->session) == MOSS_FLASH_DONE);
 }
 
 void rig_free(struct rig *g)
@@ -112,8 +112,8 @@ void rig_free(struct rig *g)
 
 void rig_settings(const struct rig *g, uint8_t *settings)
 {
-    memset(settings, 0, FLASH_SETTINGS_SIZE);
-    MUST(flash_settings(g->session, sizeof g->session, settings, FLASH_SETTINGS_SIZE) == FLASH_DONE);
+    memset(settings, 0, MOSS_FLASH_SETTINGS_SIZE);
+    MUST(moss_flash_settings(g->session, sizeof g->session, settings, MOSS_FLASH_SETTINGS_SIZE) == MOSS_FLASH_DONE);
 }
 
 static void put(struct rig *g, const char *text)
@@ -144,36 +144,36 @@ static void trace(struct rig *g)
 
     if (g->traced)
         put(g, " ");
-    put_bytes(g, flash_event_head(e), flash_event_head_length(e));
-    put_bytes(g, g->work.bytes + flash_event_payload_offset(e), (size_t)flash_event_payload_length(e));
-    sprintf(text, "/%llu", (unsigned long long)flash_event_reply(e));
+    put_bytes(g, moss_flash_event_head(e), moss_flash_event_head_length(e));
+    put_bytes(g, g->work.bytes + moss_flash_event_payload_offset(e), (size_t)moss_flash_event_payload_length(e));
+    sprintf(text, "/%llu", (unsigned long long)moss_flash_event_reply(e));
     put(g, text);
-    if (flash_event_delay(e)) {
-        sprintf(text, " ~%u", flash_event_delay(e));
+    if (moss_flash_event_delay(e)) {
+        sprintf(text, " ~%u", moss_flash_event_delay(e));
         put(g, text);
     }
 }
 
-/* A transaction's record has the form that spi_flash.h says. */
+/* A transaction's record has the form that moss_flash.h says. */
 static void check_transaction(const struct rig *g)
 {
     const uint8_t *e = g->event;
     unsigned i;
 
-    MUST(flash_event_kind(e) == FLASH_SEND);
-    MUST(flash_event_head_length(e) >= 1 && flash_event_head_length(e) <= FLASH_HEAD_MOST);
-    for (i = flash_event_head_length(e); i < FLASH_HEAD_MOST; i++)
-        MUST(flash_event_head(e)[i] == 0);
-    MUST(flash_event_payload_length(e) <= g->work.length);
-    MUST(flash_event_payload_offset(e) <= g->work.length - flash_event_payload_length(e));
-    MUST(flash_event_is_poll(e) <= 1 && e[37] == 0 && e[38] == 0 && e[39] == 0);
-    MUST(flash_event_polls(e) == 0 && flash_event_a(e) == 0 && flash_event_b(e) == 0);
+    MUST(moss_flash_event_kind(e) == MOSS_FLASH_SEND);
+    MUST(moss_flash_event_head_length(e) >= 1 && moss_flash_event_head_length(e) <= MOSS_FLASH_HEAD_MOST);
+    for (i = moss_flash_event_head_length(e); i < MOSS_FLASH_HEAD_MOST; i++)
+        MUST(moss_flash_event_head(e)[i] == 0);
+    MUST(moss_flash_event_payload_length(e) <= g->work.length);
+    MUST(moss_flash_event_payload_offset(e) <= g->work.length - moss_flash_event_payload_length(e));
+    MUST(moss_flash_event_is_poll(e) <= 1 && e[37] == 0 && e[38] == 0 && e[39] == 0);
+    MUST(moss_flash_event_polls(e) == 0 && moss_flash_event_a(e) == 0 && moss_flash_event_b(e) == 0);
 }
 
 /* A step that is lent a byte too little: 11 with the need and the polls so far, and no byte changed. */
 static void lend_too_little(const struct rig *g, size_t reply_len)
 {
-    uint8_t session[FLASH_SESSION_SIZE], event[FLASH_EVENT_SIZE] = {0};
+    uint8_t session[MOSS_FLASH_SESSION_SIZE], event[MOSS_FLASH_EVENT_SIZE] = {0};
     uint8_t *kept = malloc(g->work.length + 1);
     uint64_t need;
     uint8_t now;
@@ -182,15 +182,15 @@ static void lend_too_little(const struct rig *g, size_t reply_len)
         abort();
     memcpy(session, g->session, sizeof session);
     memcpy(kept, g->work.bytes, g->work.length);
-    now = flash_step(session, sizeof session, 0, g->reply, reply_len, g->work.bytes, 0, event, sizeof event);
-    if (now == FLASH_NO_ROOM) {
-        need = flash_event_need(event);
+    now = moss_flash_step(session, sizeof session, 0, g->reply, reply_len, g->work.bytes, 0, event, sizeof event);
+    if (now == MOSS_FLASH_NO_ROOM) {
+        need = moss_flash_event_need(event);
         CHECK(need >= 1 && need <= g->work.length);
-        CHECK(flash_event_polls(event) == g->polls - flash_event_is_poll(g->event));
+        CHECK(moss_flash_event_polls(event) == g->polls - moss_flash_event_is_poll(g->event));
         CHECK(!memcmp(session, g->session, sizeof session));
-        now = flash_step(session, sizeof session, 1, g->reply, reply_len + 1, g->work.bytes, (size_t)need - 1, event,
+        now = moss_flash_step(session, sizeof session, 1, g->reply, reply_len + 1, g->work.bytes, (size_t)need - 1, event,
                          sizeof event);
-        CHECK(now == FLASH_NO_ROOM && flash_event_need(event) == need);
+        CHECK(now == MOSS_FLASH_NO_ROOM && moss_flash_event_need(event) == need);
         CHECK(!memcmp(session, g->session, sizeof session) && !memcmp(kept, g->work.bytes, g->work.length));
     }
     free(kept);
@@ -199,26 +199,26 @@ static void lend_too_little(const struct rig *g, size_t reply_len)
 static uint8_t turn(struct rig *g, struct twist t)
 {
     const uint8_t *e = g->event;
-    size_t wanted = (size_t)flash_event_reply(e), given = wanted;
+    size_t wanted = (size_t)moss_flash_event_reply(e), given = wanted;
     int at = (int)g->sent, failed = at == t.fails_at;
-    const uint8_t *payload = g->work.bytes + flash_event_payload_offset(e);
+    const uint8_t *payload = g->work.bytes + moss_flash_event_payload_offset(e);
 
     check_transaction(g);
     trace(g);
     g->sent++;
-    g->polls += flash_event_is_poll(e);
+    g->polls += moss_flash_event_is_poll(e);
     if (wanted + 1 > g->reply_room)
-        return FLASH_ACCESS;
+        return MOSS_FLASH_ACCESS;
     if (!failed)
-        failed = sim_exchange(&g->part, flash_event_head(e), flash_event_head_length(e), payload,
-                              (size_t)flash_event_payload_length(e), g->reply, wanted);
+        failed = sim_exchange(&g->part, moss_flash_event_head(e), moss_flash_event_head_length(e), payload,
+                              (size_t)moss_flash_event_payload_length(e), g->reply, wanted);
     if (at == t.short_at)
         given = wanted ? wanted - 1 : 1;
     if (at == t.long_at)
         given = wanted + 1;
     if (t.poor)
         lend_too_little(g, given);
-    return flash_step(g->session, sizeof g->session, (uint8_t)(failed ? 1 + at % 255 : 0), g->reply, given, g->work.bytes,
+    return moss_flash_step(g->session, sizeof g->session, (uint8_t)(failed ? 1 + at % 255 : 0), g->reply, given, g->work.bytes,
                       g->work.length, g->event, sizeof g->event);
 }
 
@@ -229,10 +229,10 @@ uint8_t rig_run(struct rig *g, uint8_t begun, struct twist t)
     g->sent = g->polls = 0;
     g->traced = 0;
     g->trace[0] = 0;
-    while (now == FLASH_SEND)
+    while (now == MOSS_FLASH_SEND)
         now = turn(g, t);
-    CHECK(flash_event_kind(g->event) == now && flash_event_head_length(g->event) == 0 &&
-          flash_event_polls(g->event) == g->polls);
+    CHECK(moss_flash_event_kind(g->event) == now && moss_flash_event_head_length(g->event) == 0 &&
+          moss_flash_event_polls(g->event) == g->polls);
     return now;
 }
 

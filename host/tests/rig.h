@@ -6,7 +6,7 @@
 #include <stdint.h>
 
 #include "sim_part.h"
-#include "spi_flash.h"
+#include "moss_flash.h"
 
 /* ---- checks */
 
@@ -48,8 +48,8 @@ int room_guards_stand(const struct room *r);
 struct rig {
     struct sim_part part;
     uint8_t *memory;
-    uint8_t session[FLASH_SESSION_SIZE];
-    uint8_t event[FLASH_EVENT_SIZE];
+    uint8_t session[MOSS_FLASH_SESSION_SIZE];
+    uint8_t event[MOSS_FLASH_EVENT_SIZE];
     struct room work;
     uint8_t *reply;
     size_t reply_room;

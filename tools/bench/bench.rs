@@ -25,22 +25,22 @@ extern "C" {
     fn mg_bench_unpack(session: *const u8, len: usize) -> u64;
 }
 
-#[link(name = "flash_c", kind = "static")]
+#[link(name = "moss_flash", kind = "static")]
 extern "C" {
-    fn flash_new(session: *mut u8, len: usize) -> u8;
-    fn flash_set_erase_size(session: *mut u8, len: usize, n: u64) -> u8;
-    fn flash_set_capacity(session: *mut u8, len: usize, n: u64) -> u8;
-    fn flash_program(
+    fn moss_flash_new(session: *mut u8, len: usize) -> u8;
+    fn moss_flash_set_erase_size(session: *mut u8, len: usize, n: u64) -> u8;
+    fn moss_flash_set_capacity(session: *mut u8, len: usize, n: u64) -> u8;
+    fn moss_flash_program(
         session: *mut u8, len: usize, address: u32, data: *const u8, data_len: usize, verify: u8,
         work: *mut u8, work_len: usize, event: *mut u8, event_len: usize,
     ) -> u8;
-    fn flash_event(session: *const u8, len: usize, event: *mut u8, event_len: usize) -> u8;
-    fn flash_read_params(session: *mut u8, len: usize, room: u64, event: *mut u8, event_len: usize) -> u8;
-    fn flash_make_erase_plan(
+    fn moss_flash_event(session: *const u8, len: usize, event: *mut u8, event_len: usize) -> u8;
+    fn moss_flash_read_params(session: *mut u8, len: usize, room: u64, event: *mut u8, event_len: usize) -> u8;
+    fn moss_flash_make_erase_plan(
         session: *const u8, len: usize, address: u32, length: u64,
         entries: *mut u8, entries_len: usize, event: *mut u8, event_len: usize,
     ) -> u8;
-    fn flash_step(
+    fn moss_flash_step(
         session: *mut u8, len: usize, failed: u8, reply: *const u8, reply_len: usize,
         work: *mut u8, work_len: usize, event: *mut u8, event_len: usize,
     ) -> u8;
@@ -234,8 +234,8 @@ fn by_bytes(w: &Write, mut each: impl FnMut(&[u8; 256])) -> u64 {
     let ready = [0u8; 1];
     let mut folded = 0u64;
     unsafe {
-        assert_eq!(0, flash_new(s, 256) | flash_set_erase_size(s, 256, 4096) | flash_set_capacity(s, 256, 65_536));
-        let mut told = flash_program(s, 256, w.address, w.data.as_ptr(), w.data.len(), 0, work, 4096, e, 64);
+        assert_eq!(0, moss_flash_new(s, 256) | moss_flash_set_erase_size(s, 256, 4096) | moss_flash_set_capacity(s, 256, 65_536));
+        let mut told = moss_flash_program(s, 256, w.address, w.data.as_ptr(), w.data.len(), 0, work, 4096, e, 64);
         while told == 255 {
             let number = |at: usize| u64::from_le_bytes(event[at..at + 8].try_into().unwrap());
             let (reply, from, len) = (number(8) as usize, number(16) as usize, number(24) as usize);
@@ -248,7 +248,7 @@ fn by_bytes(w: &Write, mut each: impl FnMut(&[u8; 256])) -> u64 {
             folded = folded.wrapping_add(then(event[2] as u64, then(address as u64, tail)));
             let bytes = if event[36] == 1 { ready.as_ptr() } else { erased.as_ptr() };
             each(&session);
-            told = flash_step(s, 256, 0, bytes, reply, work, 4096, e, 64);
+            told = moss_flash_step(s, 256, 0, bytes, reply, work, 4096, e, 64);
         }
         assert_eq!(0, told);
     }
@@ -284,7 +284,7 @@ impl Run {
     /// The event of each told again: an unpacking and an event record.
     fn events(&self) -> u64 {
         let mut event = [0u8; 64];
-        self.sessions.iter().map(|s| unsafe { flash_event(s.as_ptr(), 256, event.as_mut_ptr(), 64) as u64 }).sum()
+        self.sessions.iter().map(|s| unsafe { moss_flash_event(s.as_ptr(), 256, event.as_mut_ptr(), 64) as u64 }).sum()
     }
 
     /// Each of them unpacked, with the tests: how many are sessions.
@@ -336,7 +336,7 @@ fn ours_plan(length: &usize) -> u64 {
 fn plan_records(session: &[u8; 256], length: &usize) -> u64 {
     let (mut entries, mut event) = ([0u8; 4096], [0u8; 64]);
     let (list, e) = (entries.as_mut_ptr(), event.as_mut_ptr());
-    assert_eq!(0, unsafe { flash_make_erase_plan(session.as_ptr(), 256, 0, *length as u64, list, 4096, e, 64) });
+    assert_eq!(0, unsafe { moss_flash_make_erase_plan(session.as_ptr(), 256, 0, *length as u64, list, 4096, e, 64) });
     let word = |r: &[u8], at: usize| u32::from_le_bytes(r[at..at + 4].try_into().unwrap()) as u64;
     entries.chunks(16).fold(0, |sum, r| sum.wrapping_add(then(r[0] as u64, then(word(r, 4), word(r, 8)))))
 }
@@ -348,11 +348,11 @@ fn with_params() -> [u8; 256] {
     let mut area = vec![0x53, 0x46, 0x44, 0x50, 6, 1, 0, 0xFF, 0, 6, 1, 16, 16, 0, 0, 0xFF];
     area.extend(MX66L1G45G.iter().flat_map(|d| d.to_le_bytes().to_vec()));
     unsafe {
-        assert_eq!(0, flash_new(s, 256));
-        let mut told = flash_read_params(s, 256, 2056, e, 64);
+        assert_eq!(0, moss_flash_new(s, 256));
+        let mut told = moss_flash_read_params(s, 256, 2056, e, 64);
         while told == 255 {
             let (from, reply) = (event[5] as usize, event[8] as usize);
-            told = flash_step(s, 256, 0, area[from..].as_ptr(), reply, w, 2056, e, 64);
+            told = moss_flash_step(s, 256, 0, area[from..].as_ptr(), reply, w, 2056, e, 64);
         }
         assert_eq!(0, told);
     }

@@ -1,48 +1,48 @@
-//! Our side: the archive for C, driven as include/spi_flash.h says. The parameters are read from the session's bytes by the
+//! Our side: the archive for C, driven as include/moss_flash.h says. The parameters are read from the session's bytes by the
 //! table at the head of crates/packed/specs/Layout.antt.
 use crate::case::{Case, Entry, Inst, Kind, Outcome, Params, Setter, Settings, CUT, ODD};
 use crate::wire::{Given, Wire};
 use std::convert::TryInto;
 
-#[link(name = "flash_c", kind = "static")]
+#[link(name = "moss_flash", kind = "static")]
 extern "C" {
-    fn flash_new(session: *mut u8, session_len: usize) -> u8;
-    fn flash_set_address_bytes(session: *mut u8, session_len: usize, n: u8) -> u8;
-    fn flash_set_page_size(session: *mut u8, session_len: usize, n: u64) -> u8;
-    fn flash_set_erase_size(session: *mut u8, session_len: usize, n: u64) -> u8;
-    fn flash_set_erase_opcode(session: *mut u8, session_len: usize, opcode: u8) -> u8;
-    fn flash_set_poll_limit(session: *mut u8, session_len: usize, n: u32) -> u8;
-    fn flash_set_capacity(session: *mut u8, session_len: usize, n: u64) -> u8;
-    fn flash_clear_capacity(session: *mut u8, session_len: usize) -> u8;
-    fn flash_settings(session: *const u8, session_len: usize, settings: *mut u8, settings_len: usize) -> u8;
-    fn flash_read(
+    fn moss_flash_new(session: *mut u8, session_len: usize) -> u8;
+    fn moss_flash_set_address_bytes(session: *mut u8, session_len: usize, n: u8) -> u8;
+    fn moss_flash_set_page_size(session: *mut u8, session_len: usize, n: u64) -> u8;
+    fn moss_flash_set_erase_size(session: *mut u8, session_len: usize, n: u64) -> u8;
+    fn moss_flash_set_erase_opcode(session: *mut u8, session_len: usize, opcode: u8) -> u8;
+    fn moss_flash_set_poll_limit(session: *mut u8, session_len: usize, n: u32) -> u8;
+    fn moss_flash_set_capacity(session: *mut u8, session_len: usize, n: u64) -> u8;
+    fn moss_flash_clear_capacity(session: *mut u8, session_len: usize) -> u8;
+    fn moss_flash_settings(session: *const u8, session_len: usize, settings: *mut u8, settings_len: usize) -> u8;
+    fn moss_flash_read(
         session: *mut u8, session_len: usize, address: u32, length: u64, room: u64, event: *mut u8, event_len: usize,
     ) -> u8;
-    fn flash_legacy_read(
+    fn moss_flash_legacy_read(
         session: *mut u8, session_len: usize, address: u32, length: u64, room: u64, event: *mut u8, event_len: usize,
     ) -> u8;
-    fn flash_read_params(session: *mut u8, session_len: usize, room: u64, event: *mut u8, event_len: usize) -> u8;
-    fn flash_erase(session: *mut u8, session_len: usize, event: *mut u8, event_len: usize) -> u8;
-    fn flash_erase_sectors(
+    fn moss_flash_read_params(session: *mut u8, session_len: usize, room: u64, event: *mut u8, event_len: usize) -> u8;
+    fn moss_flash_erase(session: *mut u8, session_len: usize, event: *mut u8, event_len: usize) -> u8;
+    fn moss_flash_erase_sectors(
         session: *mut u8, session_len: usize, address: u32, length: u64, event: *mut u8, event_len: usize,
     ) -> u8;
-    fn flash_program(
+    fn moss_flash_program(
         session: *mut u8, session_len: usize, address: u32, data: *const u8, data_len: usize, verify: u8,
         work: *mut u8, work_len: usize, event: *mut u8, event_len: usize,
     ) -> u8;
-    fn flash_program_data(
+    fn moss_flash_program_data(
         session: *mut u8, session_len: usize, address: u32, data: *const u8, data_len: usize,
         work: *mut u8, work_len: usize, event: *mut u8, event_len: usize,
     ) -> u8;
-    fn flash_reset(session: *mut u8, session_len: usize, event: *mut u8, event_len: usize) -> u8;
-    fn flash_read_jedec_id(session: *mut u8, session_len: usize, event: *mut u8, event_len: usize) -> u8;
-    fn flash_is_busy(session: *mut u8, session_len: usize, event: *mut u8, event_len: usize) -> u8;
-    fn flash_is_protected(session: *mut u8, session_len: usize, event: *mut u8, event_len: usize) -> u8;
-    fn flash_step(
+    fn moss_flash_reset(session: *mut u8, session_len: usize, event: *mut u8, event_len: usize) -> u8;
+    fn moss_flash_read_jedec_id(session: *mut u8, session_len: usize, event: *mut u8, event_len: usize) -> u8;
+    fn moss_flash_is_busy(session: *mut u8, session_len: usize, event: *mut u8, event_len: usize) -> u8;
+    fn moss_flash_is_protected(session: *mut u8, session_len: usize, event: *mut u8, event_len: usize) -> u8;
+    fn moss_flash_step(
         session: *mut u8, session_len: usize, failed: u8, reply: *const u8, reply_len: usize,
         work: *mut u8, work_len: usize, event: *mut u8, event_len: usize,
     ) -> u8;
-    fn flash_make_erase_plan(
+    fn moss_flash_make_erase_plan(
         session: *const u8, session_len: usize, address: u32, length: u64,
         entries: *mut u8, entries_len: usize, event: *mut u8, event_len: usize,
     ) -> u8;
@@ -76,20 +76,20 @@ impl Ours {
 
     /// A fresh session.
     pub fn renew(&mut self) {
-        assert_eq!(0, unsafe { flash_new(self.session.as_mut_ptr(), 256) });
+        assert_eq!(0, unsafe { moss_flash_new(self.session.as_mut_ptr(), 256) });
     }
 
     fn set(&mut self, setter: Setter) -> u8 {
         let s = self.session.as_mut_ptr();
         unsafe {
             match setter {
-                Setter::AddressBytes(n) => flash_set_address_bytes(s, 256, n),
-                Setter::Capacity(n) => flash_set_capacity(s, 256, n),
-                Setter::NoCapacity => flash_clear_capacity(s, 256),
-                Setter::PageSize(n) => flash_set_page_size(s, 256, n),
-                Setter::EraseSize(n) => flash_set_erase_size(s, 256, n),
-                Setter::EraseOpcode(n) => flash_set_erase_opcode(s, 256, n),
-                Setter::PollLimit(n) => flash_set_poll_limit(s, 256, n),
+                Setter::AddressBytes(n) => moss_flash_set_address_bytes(s, 256, n),
+                Setter::Capacity(n) => moss_flash_set_capacity(s, 256, n),
+                Setter::NoCapacity => moss_flash_clear_capacity(s, 256),
+                Setter::PageSize(n) => moss_flash_set_page_size(s, 256, n),
+                Setter::EraseSize(n) => moss_flash_set_erase_size(s, 256, n),
+                Setter::EraseOpcode(n) => moss_flash_set_erase_opcode(s, 256, n),
+                Setter::PollLimit(n) => moss_flash_set_poll_limit(s, 256, n),
             }
         }
     }
@@ -113,7 +113,7 @@ impl Ours {
         }
     }
 
-    /// The loop of host/flash_host.c.
+    /// The loop of host/moss_flash_host.c.
     fn run(&mut self, case: &Case, need: usize) -> Outcome {
         let before = self.session;
         self.work[need..need + GUARD.len()].copy_from_slice(&GUARD);
@@ -150,17 +150,17 @@ impl Ours {
         let (at, length) = (case.address, case.length);
         unsafe {
             match case.kind {
-                Kind::Read => flash_read(s, 256, at, length, need as u64, e, 64),
-                Kind::LegacyRead => flash_legacy_read(s, 256, at, length, need as u64, e, 64),
-                Kind::ReadParams => flash_read_params(s, 256, need as u64, e, 64),
-                Kind::Erase => flash_erase(s, 256, e, 64),
-                Kind::EraseSectors => flash_erase_sectors(s, 256, at, length, e, 64),
-                Kind::Program => flash_program(s, 256, at, d, n, verify, w, need, e, 64),
-                Kind::ProgramData => flash_program_data(s, 256, at, d, n, w, need, e, 64),
-                Kind::Reset => flash_reset(s, 256, e, 64),
-                Kind::ReadId => flash_read_jedec_id(s, 256, e, 64),
-                Kind::IsBusy => flash_is_busy(s, 256, e, 64),
-                Kind::IsProtected => flash_is_protected(s, 256, e, 64),
+                Kind::Read => moss_flash_read(s, 256, at, length, need as u64, e, 64),
+                Kind::LegacyRead => moss_flash_legacy_read(s, 256, at, length, need as u64, e, 64),
+                Kind::ReadParams => moss_flash_read_params(s, 256, need as u64, e, 64),
+                Kind::Erase => moss_flash_erase(s, 256, e, 64),
+                Kind::EraseSectors => moss_flash_erase_sectors(s, 256, at, length, e, 64),
+                Kind::Program => moss_flash_program(s, 256, at, d, n, verify, w, need, e, 64),
+                Kind::ProgramData => moss_flash_program_data(s, 256, at, d, n, w, need, e, 64),
+                Kind::Reset => moss_flash_reset(s, 256, e, 64),
+                Kind::ReadId => moss_flash_read_jedec_id(s, 256, e, 64),
+                Kind::IsBusy => moss_flash_is_busy(s, 256, e, 64),
+                Kind::IsProtected => moss_flash_is_protected(s, 256, e, 64),
                 Kind::Plan | Kind::Range => unreachable!(),
             }
         }
@@ -180,7 +180,7 @@ impl Ours {
             Given::Cut => return None,
         };
         let (s, e, w) = (self.session.as_mut_ptr(), self.event.as_mut_ptr(), self.work.as_mut_ptr());
-        Some(unsafe { flash_step(s, 256, failed, reply.as_ptr(), reply.len(), w, need, e, 64) })
+        Some(unsafe { moss_flash_step(s, 256, failed, reply.as_ptr(), reply.len(), w, need, e, 64) })
     }
 
     fn outcome(&mut self, number: u8, polls: u64, read: &[u8]) -> Outcome {
@@ -233,7 +233,7 @@ impl Ours {
 
     fn ask_plan(&mut self, case: &Case, room: usize) -> u8 {
         let (s, e, w) = (self.session.as_ptr(), self.event.as_mut_ptr(), self.work.as_mut_ptr());
-        unsafe { flash_make_erase_plan(s, 256, case.address, case.length, w, room, e, 64) }
+        unsafe { moss_flash_make_erase_plan(s, 256, case.address, case.length, w, room, e, 64) }
     }
 
     /// A read into no room: 11 tells that the range is accepted.
@@ -241,8 +241,8 @@ impl Ours {
         let before = self.session;
         let (s, e) = (self.session.as_mut_ptr(), self.event.as_mut_ptr());
         let told = match case.address % 2 {
-            0 => unsafe { flash_read(s, 256, case.address, case.length, 0, e, 64) },
-            _ => unsafe { flash_legacy_read(s, 256, case.address, case.length, 0, e, 64) },
+            0 => unsafe { moss_flash_read(s, 256, case.address, case.length, 0, e, 64) },
+            _ => unsafe { moss_flash_legacy_read(s, 256, case.address, case.length, 0, e, 64) },
         };
         if self.session != before || (told == 11 && le64(&self.event, 48) != case.length) {
             return self.odd(5);
@@ -256,7 +256,7 @@ impl Ours {
 
     fn record(&self) -> [u8; 32] {
         let mut record = [0; 32];
-        assert_eq!(0, unsafe { flash_settings(self.session.as_ptr(), 256, record.as_mut_ptr(), 32) });
+        assert_eq!(0, unsafe { moss_flash_settings(self.session.as_ptr(), 256, record.as_mut_ptr(), 32) });
         record
     }
 

@@ -1,6 +1,6 @@
 // What tools/bench calls: the parts of a step that have a line of their own. For the benchmark alone.
 use flash::Session;
-use flash_c::Unpacked;
+use moss_flash::Unpacked;
 
 // ---- the all-FF test
 
@@ -30,7 +30,7 @@ pub extern "C" fn mg_bench_pack(session: &[u8], out: &mut [u8], turns: u32) {
 // Unpacked as the exports do it: read, held to its rule, packed again and compared. 1 if the bytes are a session's, else 0.
 #[no_mangle]
 pub extern "C" fn mg_bench_unpack(session: &[u8]) -> u64 {
-    match flash_c::unpack(session) {
+    match moss_flash::unpack(session) {
         Unpacked::Held(_) => 1,
         Unpacked::Bad => 0,
     }

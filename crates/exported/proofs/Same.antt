@@ -17,10 +17,10 @@ use Rattle.packed.specs.Layout.{bytesOf, sessionIn, putOver}
 use Rattle.packed.proofs.Laws.{sized, same-is-packed}
 use Rattle.rule.specs.Rule.{ruleOf}
 use Rattle.over_bytes.specs.OverBytes.{Back, packedOf, badBytes, unpackOf, startBytes, stepBytes}
-use Rattle.flash_c.specs.declared.Unpacked.{Unpacked}
-use Rattle.flash_c.specs.declared.Unpacked.the-variants.{Held, Bad}
-use Rattle.flash_c.specs.Calls.{opening, starting, openedOf, openedStart, called, Called, numberIn}
-use Rattle.flash_c.specs.Calls as C
+use Rattle.moss_flash.specs.declared.Unpacked.{Unpacked}
+use Rattle.moss_flash.specs.declared.Unpacked.the-variants.{Held, Bad}
+use Rattle.moss_flash.specs.Calls.{opening, starting, openedOf, openedStart, called, Called, numberIn}
+use Rattle.moss_flash.specs.Calls as C
 use Rattle.exported.specs.Exported.{As, Exported}
 
 -- what is handed back for what the bytes hold

@@ -8,7 +8,7 @@ use Rattle.commands.specs.Calls.{Call}
 use Rattle.flash.specs.Steps.{stepOf}
 use Rattle.on_part.specs.OnPart.{startOf}
 use Rattle.over_bytes.specs.OverBytes.{Back, startBytes, stepBytes}
-use Rattle.flash_c.specs.Calls.{openedOf, openedStart, called, Called, numberIn}
+use Rattle.moss_flash.specs.Calls.{openedOf, openedStart, called, Called, numberIn}
 
 -- a call of an export gives what the driver over bytes hands back: the event's number, the session's bytes and the lent room
 pub record As (y : Called) (x : Back) : Type 0 where
@@ -17,7 +17,7 @@ pub record As (y : Called) (x : Back) : Type 0 where
   pub room : y .room ≡ x .room
 
 -- with room for the event record, whatever the session's bytes: the step, and each start. (`called` with these arguments is what the
--- promises of flash_step and of the starts name)
+-- promises of moss_flash_step and of the starts name)
 pub record Exported : Type 0 where
   pub steps : (b e r room : List ℕ) (failed : Bool) → 64 ≤ length e
       → As (called (openedOf b (length e)) b e room (λ s. stepOf s failed r room)) (stepBytes b failed r room)

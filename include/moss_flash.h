@@ -1,0 +1,313 @@
+/*
+ * moss_flash.h: the C interface of the proved SPI NOR flash driver.
+ *
+ * The driver never touches the bus and never waits. A session is 256 bytes that the caller lends. Start a command; while
+ * the result is MOSS_FLASH_SEND, carry out the transaction in the event record and hand its reply to moss_flash_step; any other
+ * result is the command's answer. host/moss_flash_host.c is that loop. docs/MANUAL.md is the manual.
+ *
+ * Rules for every call:
+ *   - A slice is a pointer and a number of bytes. The pointer is valid for that many bytes. Where the number is 0 the
+ *     pointer is not used.
+ *   - No slice that a call may write overlaps another slice of that call.
+ *   - No pointer is kept after the call. Nothing is allocated. No call waits.
+ *   - One session is used by one thread at a time. Two sessions know nothing of each other.
+ * Numbers in the records are little-endian.
+ */
+#ifndef MOSS_FLASH_H
+#define MOSS_FLASH_H
+
+#include <stddef.h>
+#include <stdint.h>
+
+#ifdef __cplusplus
+extern "C" {
+#endif
+
+/* ---- sizes, in bytes */
+
+#define MOSS_FLASH_SESSION_SIZE 256  /* a session, exactly */
+#define MOSS_FLASH_EVENT_SIZE 64     /* an event record, at least */
+#define MOSS_FLASH_SETTINGS_SIZE 32  /* a settings record, at least */
+#define MOSS_FLASH_ENTRY_SIZE 16     /* one entry of an erase plan */
+#define MOSS_FLASH_SFDP_ROOM 2056    /* the working buffer of moss_flash_read_params, at least */
+#define MOSS_FLASH_HEAD_MOST 6       /* the longest head of a transaction */
+
+/* ---- results
+ *
+ * Each function gives one of these. "Refused" means: no transaction was issued, and no byte of the session or of a lent
+ * buffer changed, but for the event record, which tells the answer.
+ */
+
+/* Not an answer: carry out the transaction in the event record, then call moss_flash_step. */
+#define MOSS_FLASH_SEND 255
+
+/* The command finished, or the setter took its value.
+ * Left: what the command was to do is done. Next: go on. */
+#define MOSS_FLASH_DONE 0
+
+/* Verify found a byte that is not what was written: address, wrote, read in the event record.
+ * Left: all is erased and written; the working buffer holds every byte of the span as it should be; settings as before.
+ * Next: program the span again from a copy of the working buffer; if that fails too, the block is worn or protected. */
+#define MOSS_FLASH_READBACK_ERROR 1
+
+/* The ID has no manufacturer: byte 0 of the short reply is 7F, and so are bytes 1 to 13 of the long one.
+ * Left: settings as before. Next: look at the wiring; a bus that is stuck high or a wrong mode reads like this. */
+#define MOSS_FLASH_INVALID_MANUFACTURER 2
+
+/* The first SFDP parameter header is not the basic table (ID FF00) or its major is not 1.
+ * Left: settings and parameters as before. Next: set sizes by hand, or reject the part. */
+#define MOSS_FLASH_INVALID_SFDP_HEADER 3
+
+/* The basic table is too short (under 9 dwords) or has a size or density exponent that cannot be.
+ * Left: settings and parameters as before. Next: set sizes by hand, or reject the part. */
+#define MOSS_FLASH_INVALID_SFDP_PARAMS 4
+
+/* The range is empty, or passes the address bytes' limit or the capacity; or the plan's span does.
+ * The reported address is in the event record. Refused. Next: mend the range, the capacity or the address bytes. */
+#define MOSS_FLASH_INVALID_ADDRESS 5
+
+/* The parameters rule out both ways of a software reset. Refused. Next: reset by pin or by power. */
+#define MOSS_FLASH_NO_RESET_INSTRUCTION 6
+
+/* The parameters give no erase type and no erase size is set. Refused.
+ * Next: moss_flash_set_erase_size and moss_flash_set_erase_opcode by the data sheet. */
+#define MOSS_FLASH_NO_ERASE_INSTRUCTION 7
+
+/* The host said that the transaction failed, or the reply has another length than was asked.
+ * Left: the command is over; the flash is as the transactions before left it, and the failed one may or may not have
+ * acted. After a program the working buffer keeps the restore data gathered so far. An out buffer of a read is as before.
+ * Settings as before. Next: see to the bus, then look at the part (moss_flash_is_busy) and write the span again from the
+ * working buffer if an erase had been sent. */
+#define MOSS_FLASH_ACCESS 8
+
+/* The last poll that the limit allows still says busy.
+ * Left: the command is over; the part may still be at work. After a program the working buffer keeps the restore data.
+ * Settings as before. Next: keep the working buffer; wait until moss_flash_is_busy says no, or reset the part; then write the
+ * span again from the working buffer. A limit that is too low for the part gives this too. */
+#define MOSS_FLASH_BUSY 9
+
+/* A setter's argument is outside its limits. Refused. Next: mend the argument. */
+#define MOSS_FLASH_BAD_SETTING 10
+
+/* A lent room is too small; the need is in the event record.
+ * From a start: refused. From moss_flash_step: the reply was not used, and the command waits unchanged; call moss_flash_step again
+ * with the same reply and enough room. For an event record or a settings record that is too short the result alone tells. */
+#define MOSS_FLASH_NO_ROOM 11
+
+/* No SFDP signature. Left: settings and parameters as before. Next: set sizes by hand, or reject the part. */
+#define MOSS_FLASH_NO_SFDP 12
+
+/* The session is not 256 bytes, or not bytes that a session packs to; or a command runs, and this was a start or a setter.
+ * Refused. Next: if a command runs, step it to its answer; else the bytes were damaged: moss_flash_new, and the settings again. */
+#define MOSS_FLASH_BAD_SESSION 13
+
+/* ---- the event record: offsets */
+
+#define MOSS_FLASH_EVENT_KIND 0            /* MOSS_FLASH_SEND, or the answer's number */
+#define MOSS_FLASH_EVENT_HEAD_LENGTH 1     /* 1 to 6; 0 for an answer */
+#define MOSS_FLASH_EVENT_HEAD 2            /* 6 bytes: command byte, address (highest first), dummy; the rest 0 */
+#define MOSS_FLASH_EVENT_REPLY 8           /* 64 bits: so many bytes are read after head and payload */
+#define MOSS_FLASH_EVENT_PAYLOAD_OFFSET 16 /* 64 bits: where the payload starts in the working buffer */
+#define MOSS_FLASH_EVENT_PAYLOAD_LENGTH 24 /* 64 bits: 0 for none */
+#define MOSS_FLASH_EVENT_DELAY 32          /* 32 bits: µs to wait after the transaction, before the step */
+#define MOSS_FLASH_EVENT_POLL 36           /* 1 for a status poll */
+#define MOSS_FLASH_EVENT_POLLS 40          /* 64 bits, of an answer: the status polls that the command issued */
+#define MOSS_FLASH_EVENT_A 48              /* 64 bits: the answer's first number */
+#define MOSS_FLASH_EVENT_B 56              /* 64 bits: the answer's second number */
+
+/* ---- the settings record: offsets */
+
+#define MOSS_FLASH_SETTINGS_ADDRESS_BYTES 0
+#define MOSS_FLASH_SETTINGS_CAPACITY_SET 1 /* 0 or 1 */
+#define MOSS_FLASH_SETTINGS_ERASE_OPCODE 2
+#define MOSS_FLASH_SETTINGS_KNOWN 3        /* 1 once SFDP parameters were read */
+#define MOSS_FLASH_SETTINGS_POLL_LIMIT 4   /* 16 bits */
+#define MOSS_FLASH_SETTINGS_BY_FLAG 6      /* 1 if polls go by the flag status register */
+#define MOSS_FLASH_SETTINGS_RUNS 7         /* 1 while a command runs */
+#define MOSS_FLASH_SETTINGS_CAPACITY 8     /* 64 bits, bytes */
+#define MOSS_FLASH_SETTINGS_PAGE_SIZE 16   /* 32 bits; 0: unset, and 256 is used */
+#define MOSS_FLASH_SETTINGS_ERASE_SIZE 20  /* 32 bits; 0: unset */
+#define MOSS_FLASH_SETTINGS_DENSITY 24     /* 64 bits, in bits; 0: unknown */
+
+/* ---- an entry of an erase plan: offsets */
+
+#define MOSS_FLASH_ENTRY_OPCODE 0
+#define MOSS_FLASH_ENTRY_TIMED 1           /* 1 if the typical time is known */
+#define MOSS_FLASH_ENTRY_BLOCK_SIZE 4      /* 32 bits, bytes */
+#define MOSS_FLASH_ENTRY_BASE 8            /* 32 bits */
+#define MOSS_FLASH_ENTRY_TIME 12           /* 32 bits: typical time in µs */
+
+/* ---- limits of the settings */
+
+#define MOSS_FLASH_ADDRESS_BYTES_MOST 4            /* from 1 */
+#define MOSS_FLASH_PAGE_SIZE_MOST 32768            /* from 1 */
+#define MOSS_FLASH_ERASE_SIZE_MOST 2147483648u     /* from 1 */
+#define MOSS_FLASH_POLL_LIMIT_MOST 65535           /* from 1; the default */
+
+/* ---- a session */
+
+/* Makes the bytes a fresh session: 3 address bytes, erase opcode 20, poll limit 65,535, nothing else set.
+ * 0; 13 if session_len is not 256, and then nothing is written. */
+uint8_t moss_flash_new(uint8_t *session, size_t session_len);
+
+/* ---- setters: 0; 10 outside the limits; 13 for bad bytes or while a command runs */
+
+uint8_t moss_flash_set_address_bytes(uint8_t *session, size_t session_len, uint8_t n);
+uint8_t moss_flash_set_page_size(uint8_t *session, size_t session_len, uint64_t n);
+uint8_t moss_flash_set_erase_size(uint8_t *session, size_t session_len, uint64_t n);
+uint8_t moss_flash_set_erase_opcode(uint8_t *session, size_t session_len, uint8_t opcode);
+uint8_t moss_flash_set_poll_limit(uint8_t *session, size_t session_len, uint32_t n);
+uint8_t moss_flash_set_capacity(uint8_t *session, size_t session_len, uint64_t n);
+uint8_t moss_flash_clear_capacity(uint8_t *session, size_t session_len);
+
+/* Writes the settings record. 0; 13 for bad bytes; 11 if settings_len is under 32, and then nothing is written. */
+uint8_t moss_flash_settings(const uint8_t *session, size_t session_len, uint8_t *settings, size_t settings_len);
+
+/* ---- starts
+ *
+ * MOSS_FLASH_SEND with the first transaction in the event record, or an answer. 13 for bad bytes: nothing is written, the
+ * event record neither. 11 if event_len is under 64: nothing is written or started.
+ */
+
+/* Reads with command 0B. The bytes land at the start of the out buffer, which is lent as `work` to each step; room is
+ * its length. Also 5, then 11. */
+uint8_t moss_flash_read(uint8_t *session, size_t session_len, uint32_t address, uint64_t length, uint64_t room,
+                   uint8_t *event, size_t event_len);
+
+/* The same with command 03. */
+uint8_t moss_flash_legacy_read(uint8_t *session, size_t session_len, uint32_t address, uint64_t length, uint64_t room,
+                          uint8_t *event, size_t event_len);
+
+/* Reads the SFDP area and sets address bytes, capacity, page size, erase size and opcode by it. The working buffer has
+ * room bytes, at least 2,056 (else 11). Also 12, 3, 4, 8. */
+uint8_t moss_flash_read_params(uint8_t *session, size_t session_len, uint64_t room, uint8_t *event, size_t event_len);
+
+/* Erases the whole chip. */
+uint8_t moss_flash_erase(uint8_t *session, size_t session_len, uint8_t *event, size_t event_len);
+
+/* Erases exactly these bytes: 5 if the plan's blocks would take more. Also 7. */
+uint8_t moss_flash_erase_sectors(uint8_t *session, size_t session_len, uint32_t address, uint64_t length,
+                            uint8_t *event, size_t event_len);
+
+/* Writes data and keeps every other byte: reads what else the erase blocks hold, erases, writes back. The working buffer
+ * holds the whole span of the blocks (11 tells how long that is) and is lent to each step; data is only needed for this
+ * call. verify: 0 no, any other yes. 5, 7, 5 for the span, 11. */
+uint8_t moss_flash_program(uint8_t *session, size_t session_len, uint32_t address, const uint8_t *data, size_t data_len,
+                      uint8_t verify, uint8_t *work, size_t work_len, uint8_t *event, size_t event_len);
+
+/* Writes data page by page without an erase: bits only go from 1 to 0. The data are copied into the working buffer.
+ * No data: Done at any address. 5, 11. */
+uint8_t moss_flash_program_data(uint8_t *session, size_t session_len, uint32_t address, const uint8_t *data, size_t data_len,
+                           uint8_t *work, size_t work_len, uint8_t *event, size_t event_len);
+
+/* Software reset: 66 and 99, or F0, by the parameters. Also 6. */
+uint8_t moss_flash_reset(uint8_t *session, size_t session_len, uint8_t *event, size_t event_len);
+
+/* The JEDEC ID: bank, manufacturer and device in the event record. Also 2. */
+uint8_t moss_flash_read_jedec_id(uint8_t *session, size_t session_len, uint8_t *event, size_t event_len);
+
+/* One status poll, and one status read: yes or no in the event record. */
+uint8_t moss_flash_is_busy(uint8_t *session, size_t session_len, uint8_t *event, size_t event_len);
+uint8_t moss_flash_is_protected(uint8_t *session, size_t session_len, uint8_t *event, size_t event_len);
+
+/* ---- steps */
+
+/* The transaction was carried out. failed: 0 no; any other: the host could not carry it out, and the reply is not looked
+ * at. reply: exactly the bytes that were asked for (none: length 0). work: the working or out buffer of the command, the
+ * same bytes at every step; any slice, of length 0 too, for a command that has none. MOSS_FLASH_SEND with the next
+ * transaction, or the command's answer. On a command that is over: its answer again. */
+uint8_t moss_flash_step(uint8_t *session, size_t session_len, uint8_t failed, const uint8_t *reply, size_t reply_len,
+                   uint8_t *work, size_t work_len, uint8_t *event, size_t event_len);
+
+/* Tells again what the session waits on, or its last answer. Changes nothing but the event record. */
+uint8_t moss_flash_event(const uint8_t *session, size_t session_len, uint8_t *event, size_t event_len);
+
+/* ---- plans */
+
+/* The blocks that an erase of these bytes takes, as records of 16 bytes; there are entries_len / 16 slots. 0 with their
+ * count, 5 with the reported address, 7, 11 with the count that is needed (then no slot is changed), 13. A command may
+ * be running. */
+uint8_t moss_flash_make_erase_plan(const uint8_t *session, size_t session_len, uint32_t address, uint64_t length,
+                              uint8_t *entries, size_t entries_len, uint8_t *event, size_t event_len);
+
+/* ---- readers of the records */
+
+static inline uint32_t moss_flash_le32(const uint8_t *p)
+{
+    return (uint32_t)p[0] | (uint32_t)p[1] << 8 | (uint32_t)p[2] << 16 | (uint32_t)p[3] << 24;
+}
+
+static inline uint64_t moss_flash_le64(const uint8_t *p)
+{
+    return (uint64_t)moss_flash_le32(p) | (uint64_t)moss_flash_le32(p + 4) << 32;
+}
+
+/* Of any event. */
+static inline uint8_t moss_flash_event_kind(const uint8_t *event) { return event[MOSS_FLASH_EVENT_KIND]; }
+
+/* Of a transaction. */
+static inline uint8_t moss_flash_event_head_length(const uint8_t *event) { return event[MOSS_FLASH_EVENT_HEAD_LENGTH]; }
+static inline const uint8_t *moss_flash_event_head(const uint8_t *event) { return event + MOSS_FLASH_EVENT_HEAD; }
+static inline uint64_t moss_flash_event_reply(const uint8_t *event) { return moss_flash_le64(event + MOSS_FLASH_EVENT_REPLY); }
+static inline uint64_t moss_flash_event_payload_offset(const uint8_t *event)
+{
+    return moss_flash_le64(event + MOSS_FLASH_EVENT_PAYLOAD_OFFSET);
+}
+static inline uint64_t moss_flash_event_payload_length(const uint8_t *event)
+{
+    return moss_flash_le64(event + MOSS_FLASH_EVENT_PAYLOAD_LENGTH);
+}
+static inline uint32_t moss_flash_event_delay(const uint8_t *event) { return moss_flash_le32(event + MOSS_FLASH_EVENT_DELAY); }
+static inline uint8_t moss_flash_event_is_poll(const uint8_t *event) { return event[MOSS_FLASH_EVENT_POLL]; }
+
+/* Of an answer. */
+static inline uint64_t moss_flash_event_polls(const uint8_t *event) { return moss_flash_le64(event + MOSS_FLASH_EVENT_POLLS); }
+static inline uint64_t moss_flash_event_a(const uint8_t *event) { return moss_flash_le64(event + MOSS_FLASH_EVENT_A); }
+static inline uint64_t moss_flash_event_b(const uint8_t *event) { return moss_flash_le64(event + MOSS_FLASH_EVENT_B); }
+
+/* Of answer 1: where the first differing byte is; of answer 5: the reported address. */
+static inline uint32_t moss_flash_event_address(const uint8_t *event) { return moss_flash_le32(event + MOSS_FLASH_EVENT_A); }
+/* Of answer 1: what was written there and what was read. */
+static inline uint8_t moss_flash_event_wrote(const uint8_t *event) { return event[MOSS_FLASH_EVENT_B]; }
+static inline uint8_t moss_flash_event_read(const uint8_t *event) { return event[MOSS_FLASH_EVENT_B + 1]; }
+/* Of answer 11: the bytes, or the slots of a plan, that are needed. */
+static inline uint64_t moss_flash_event_need(const uint8_t *event) { return moss_flash_event_a(event); }
+/* Of answer 0 of a plan: how many entries it has. */
+static inline uint64_t moss_flash_event_count(const uint8_t *event) { return moss_flash_event_a(event); }
+/* Of answer 0 of moss_flash_is_busy and moss_flash_is_protected: 0 or 1. */
+static inline uint8_t moss_flash_event_yes(const uint8_t *event) { return event[MOSS_FLASH_EVENT_A]; }
+/* Of answer 0 of moss_flash_read_jedec_id: how many 7F came before the manufacturer, the manufacturer, the device. */
+static inline uint8_t moss_flash_event_bank(const uint8_t *event) { return event[MOSS_FLASH_EVENT_A]; }
+static inline uint8_t moss_flash_event_manufacturer(const uint8_t *event) { return event[MOSS_FLASH_EVENT_B]; }
+static inline uint16_t moss_flash_event_device(const uint8_t *event)
+{
+    return (uint16_t)(event[MOSS_FLASH_EVENT_B + 1] | event[MOSS_FLASH_EVENT_B + 2] << 8);
+}
+
+static inline uint8_t moss_flash_settings_address_bytes(const uint8_t *s) { return s[MOSS_FLASH_SETTINGS_ADDRESS_BYTES]; }
+static inline uint8_t moss_flash_settings_capacity_set(const uint8_t *s) { return s[MOSS_FLASH_SETTINGS_CAPACITY_SET]; }
+static inline uint8_t moss_flash_settings_erase_opcode(const uint8_t *s) { return s[MOSS_FLASH_SETTINGS_ERASE_OPCODE]; }
+static inline uint8_t moss_flash_settings_known(const uint8_t *s) { return s[MOSS_FLASH_SETTINGS_KNOWN]; }
+static inline uint16_t moss_flash_settings_poll_limit(const uint8_t *s)
+{
+    return (uint16_t)(s[MOSS_FLASH_SETTINGS_POLL_LIMIT] | s[MOSS_FLASH_SETTINGS_POLL_LIMIT + 1] << 8);
+}
+static inline uint8_t moss_flash_settings_by_flag(const uint8_t *s) { return s[MOSS_FLASH_SETTINGS_BY_FLAG]; }
+static inline uint8_t moss_flash_settings_runs(const uint8_t *s) { return s[MOSS_FLASH_SETTINGS_RUNS]; }
+static inline uint64_t moss_flash_settings_capacity(const uint8_t *s) { return moss_flash_le64(s + MOSS_FLASH_SETTINGS_CAPACITY); }
+static inline uint32_t moss_flash_settings_page_size(const uint8_t *s) { return moss_flash_le32(s + MOSS_FLASH_SETTINGS_PAGE_SIZE); }
+static inline uint32_t moss_flash_settings_erase_size(const uint8_t *s) { return moss_flash_le32(s + MOSS_FLASH_SETTINGS_ERASE_SIZE); }
+static inline uint64_t moss_flash_settings_density(const uint8_t *s) { return moss_flash_le64(s + MOSS_FLASH_SETTINGS_DENSITY); }
+
+/* entry: the first byte of a record of 16 bytes. */
+static inline uint8_t moss_flash_entry_opcode(const uint8_t *entry) { return entry[MOSS_FLASH_ENTRY_OPCODE]; }
+static inline uint8_t moss_flash_entry_timed(const uint8_t *entry) { return entry[MOSS_FLASH_ENTRY_TIMED]; }
+static inline uint32_t moss_flash_entry_size(const uint8_t *entry) { return moss_flash_le32(entry + MOSS_FLASH_ENTRY_BLOCK_SIZE); }
+static inline uint32_t moss_flash_entry_base(const uint8_t *entry) { return moss_flash_le32(entry + MOSS_FLASH_ENTRY_BASE); }
+static inline uint32_t moss_flash_entry_time(const uint8_t *entry) { return moss_flash_le32(entry + MOSS_FLASH_ENTRY_TIME); }
+
+#ifdef __cplusplus
+}
+#endif
+
+#endif
