@@ -54,8 +54,8 @@ same-length-2 c = search needs
 returns-2 : tie.Need-returns-2
 returns-2 c = rw (c .before .before .write-words .ensures, c .before .before .before .plan-words .ensures, c .before .before .before .before .before .before .before .plan-into .ensures .0, c .before .before .before .before .before .before .before .plan-into .ensures .1, c .before .before .before .before .before .before .before .before .query-of .ensures, ← c .before .before .before .before .before .before .before .before .before .before .before .before .before .«open» .ensures, c .before .before .before .before .before .before .before .before .before .before .before .s .given .1) (refl, refl, refl)
 
-pub flash-make-erase-plan-spec : {M : Type 1} → statement M
-flash-make-erase-plan-spec =
+pub moss-flash-make-erase-plan-spec : {M : Type 1} → statement M
+moss-flash-make-erase-plan-spec =
     tie.close
     (tie.spec
     open-requires

@@ -31,5 +31,5 @@ returns-2 : tie.Need-returns-2
 unfolding newOf
 returns-2 c = rw (ne-eqb _ _ (c .if1 .left)) (refl, refl)
 
-pub flash-new-spec : {M : Type 1} → statement M
-flash-new-spec = tie.close (tie.spec new-requires put-requires same-length returns returns-2)
+pub moss-flash-new-spec : {M : Type 1} → statement M
+moss-flash-new-spec = tie.close (tie.spec new-requires put-requires same-length returns returns-2)

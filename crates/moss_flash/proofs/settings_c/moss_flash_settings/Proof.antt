@@ -45,8 +45,8 @@ same-length c = search needs
 returns-3 : tie.Need-returns-3
 returns-3 c = rw (c .before .before .write-settings .ensures, c .before .before .before .settings-words .ensures, ← c .before .before .before .before .before .before .before .before .before .unpack .ensures, c .before .before .before .before .before .before .before .s .given .1, le-ltb _ _ (c .before .before .before .before .before .if1 .left)) (refl, refl)
 
-pub flash-settings-spec : {M : Type 1} → statement M
-flash-settings-spec =
+pub moss-flash-settings-spec : {M : Type 1} → statement M
+moss-flash-settings-spec =
     tie.close
     (tie.spec
     unpack-requires

@@ -45,8 +45,8 @@ same-length c = search needs
 returns-2 : tie.Need-returns-2
 returns-2 c = rw (c .number-in .ensures, c .before .before .before .write-event .ensures, c .before .before .before .before .before .tell .ensures, ← c .before .before .before .before .before .before .before .before .before .«open» .ensures, c .before .before .before .before .before .before .before .s .given .1) (refl, refl)
 
-pub flash-event-spec : {M : Type 1} → statement M
-flash-event-spec =
+pub moss-flash-event-spec : {M : Type 1} → statement M
+moss-flash-event-spec =
     tie.close
     (tie.spec
     open-requires

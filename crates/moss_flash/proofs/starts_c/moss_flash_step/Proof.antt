@@ -52,8 +52,8 @@ same-length-4 c = search needs
 returns-2 : tie.Need-returns-2
 returns-2 c = rw (c .before .before .before .before .hand-back .ensures .0, c .before .before .before .before .hand-back .ensures .1, c .before .before .before .before .hand-back .ensures .2, c .before .before .before .before .before .before .before .before .before .step .ensures .0, c .before .before .before .before .before .before .before .before .before .step .ensures .1, ← c .before .before .before .before .before .before .before .before .before .before .before .before .before .before .«open» .ensures, c .before .before .before .before .before .before .before .before .before .before .before .before .s .given .1) (refl, refl, refl, refl)
 
-pub flash-step-spec : {M : Type 1} → statement M
-flash-step-spec =
+pub moss-flash-step-spec : {M : Type 1} → statement M
+moss-flash-step-spec =
     tie.close
     (tie.spec
     open-requires
