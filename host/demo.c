@@ -18,7 +18,8 @@
 
 static uint8_t memory[CAPACITY];
 static uint8_t expected[CAPACITY];
-static uint8_t work[BLOCK_SIZE];
+static uint8_t work[BLOCK_SIZE];                /* the working buffer of programs, and nothing else */
+static uint8_t area[MOSS_FLASH_SFDP_ROOM];      /* where the SFDP area lands */
 static uint8_t reply[BLOCK_SIZE];
 
 static struct sim_part part;
@@ -138,13 +139,6 @@ static void table_end(uint8_t answer)
            (unsigned long long)moss_flash_event_polls(host.event));
 }
 
-/* The simulated part needs no time. */
-static void no_delay(void *context, uint32_t microseconds)
-{
-    (void)context;
-    (void)microseconds;
-}
-
 /* ---- the five parts of the show */
 
 static void set_up(void)
@@ -158,12 +152,14 @@ static void set_up(void)
     memcpy(memory + SETTINGS, "name=router-1;boot=a", 20);
     memcpy(expected, memory, sizeof memory);
     host.exchange = sim_exchange;
-    host.delay = no_delay;
+    host.delay = sim_delay;
     host.watch = watch;
     host.context = &part;
     host.reply = reply;
     host.reply_room = sizeof reply;
-    expect(moss_flash_host_init(&host) == MOSS_FLASH_DONE, "a fresh session of 256 bytes");
+    shows = 0;
+    expect(moss_flash_host_init(&host) == MOSS_FLASH_DONE, "a fresh session of 256 bytes, and the part is idle");
+    shows = 1;
 }
 
 static void identify(void)
@@ -186,9 +182,9 @@ static void learn(void)
 
     printf("\n2. What can it do? (the part's SFDP area)\n");
     table_head();
-    answer = moss_flash_host_read_params(&host, work, sizeof work);
+    answer = moss_flash_host_read_params(&host, area, sizeof area);
     table_end(answer);
-    moss_flash_settings(host.session, sizeof host.session, s, sizeof s);
+    expect(moss_flash_host_settings(&host, s) == MOSS_FLASH_DONE, "the settings can be read");
     printf("  %u address bytes, capacity %llu, pages of %u, erase size %u by opcode %02X\n",
            moss_flash_settings_address_bytes(s), (unsigned long long)moss_flash_settings_capacity(s), moss_flash_settings_page_size(s),
            moss_flash_settings_erase_size(s), moss_flash_settings_erase_opcode(s));
@@ -231,7 +227,7 @@ static void hang(void)
     uint8_t answer;
 
     printf("\n5. The same again, but the part hangs after the erase. At most 5 polls are allowed.\n");
-    moss_flash_set_poll_limit(host.session, sizeof host.session, 5);
+    expect(moss_flash_host_set_poll_limit(&host, 5) == MOSS_FLASH_DONE, "the limit is set");
     part.stuck_from = part.operations;
     table_head();
     programs = 1;
@@ -244,27 +240,22 @@ static void hang(void)
     expect(!memcmp(work, expected + BLOCK, BLOCK_SIZE), "the working buffer has the seeds and the new settings");
 }
 
-static void mend(void)
+static void recover(void)
 {
     uint8_t page[256];
-    uint32_t base = 0;
-    uint64_t span = 0;
     uint8_t answer;
 
-    printf("\n  The part is ready again. The working buffer is written back.\n");
-    part.stuck = 0;
-    part.stuck_from = SIM_NEVER;
+    printf("\n  The part is ready again. The span is erased and written again from the working buffer, and read back.\n");
+    expect(host.touched == 1 && host.kept == work, "the host knows that the block waits to be restored");
+    expect(moss_flash_host_program(&host, SETTINGS, work, 1, 0, area, sizeof area) == MOSS_FLASH_HOST_KEPT,
+           "and writes nothing else before that");
+    sim_unstick(&part);
     shows = 0;
     number = 0;
-    do
-        answer = moss_flash_host_is_busy(&host);
-    while (answer == MOSS_FLASH_DONE && moss_flash_event_yes(host.event));
-    if (answer == MOSS_FLASH_DONE)
-        answer = moss_flash_host_span(&host, SETTINGS, SETTINGS_SIZE, &base, &span);
-    if (answer == MOSS_FLASH_DONE)
-        answer = moss_flash_host_restore(&host, base, work, (size_t)span, page, sizeof page);
+    answer = moss_flash_host_restore(&host, 1, page, sizeof page);
     printf("  answer %u, %s; %u transactions\n", answer, moss_flash_host_answer_name(answer), number);
-    expect(answer == MOSS_FLASH_DONE && !memcmp(memory, expected, sizeof memory), "every byte of the part is as it should be");
+    expect(answer == MOSS_FLASH_DONE && !host.touched, "restored");
+    expect(!memcmp(memory, expected, sizeof memory), "every byte of the part is as it should be");
 }
 
 int main(void)
@@ -275,7 +266,7 @@ int main(void)
     write_beside_seeds();
     read_back();
     hang();
-    mend();
+    recover();
     printf(wrong ? "\ndemo: something was NOT as it should be\n" : "\ndemo: all as it should be\n");
     return wrong;
 }

@@ -33,7 +33,7 @@ static void fill(uint8_t *bytes, size_t length, uint8_t value)
 
 void sim_init(struct sim_part *p, uint8_t *memory, size_t capacity)
 {
-    static const struct sim_part none = {0};
+    static struct sim_part none; /* all 0 */
     static const struct sim_type types[SIM_TYPES] = {{0x20, 4096}, {0x52, 32768}, {0xD8, 65536}, {0, 0}};
     int i;
 
@@ -50,7 +50,7 @@ void sim_init(struct sim_part *p, uint8_t *memory, size_t capacity)
     p->sfdp = sim_sfdp;
     p->sfdp_len = sizeof sim_sfdp;
     p->busy_polls = 1;
-    p->stuck_from = p->fails_at = p->bad_cell = SIM_NEVER;
+    p->stuck_from = p->fails_at = p->lost_at = p->bad_cell = SIM_NEVER;
     fill(memory, capacity, 0xFF);
 }
 
@@ -65,15 +65,17 @@ static size_t address_of(const uint8_t *head, size_t bytes)
     return address;
 }
 
-/* Whether an erase or write may go on: the latch is set. It is clear afterwards, and the part busy. */
-static int begins(struct sim_part *p)
+/* Whether an erase or write may go on: the latch is set. It is clear afterwards, and the part busy, by the clock if the
+ * operation has a time. */
+static int begins(struct sim_part *p, uint64_t microseconds)
 {
     if (!p->latch) {
         p->ignored++;
         return 0;
     }
     p->latch = 0;
-    p->busy_left = p->busy_polls;
+    p->busy_left = microseconds ? 0 : p->busy_polls;
+    p->busy_until = p->clock + microseconds;
     p->stuck = p->operations >= p->stuck_from;
     p->operations++;
     return 1;
@@ -116,6 +118,11 @@ static void read_bytes(const uint8_t *bytes, size_t count, size_t from, uint8_t 
         reply[i] = from + i < count ? bytes[from + i] : 0xFF;
 }
 
+static int is_busy(const struct sim_part *p)
+{
+    return p->busy_left > 0 || p->stuck || p->clock < p->busy_until;
+}
+
 /* A poll first lowers the busy polls left; a part that is stuck never lowers its last one. */
 static void poll(struct sim_part *p, uint8_t opcode, uint8_t *reply, size_t length)
 {
@@ -124,7 +131,7 @@ static void poll(struct sim_part *p, uint8_t opcode, uint8_t *reply, size_t leng
     p->polls++;
     if (p->busy_left > 0 && !p->stuck)
         p->busy_left--;
-    busy = p->busy_left > 0 || p->stuck;
+    busy = is_busy(p);
     if (opcode == 0x05)
         fill(reply, length, (uint8_t)(busy | p->latch << 1 | p->protect));
     else
@@ -148,7 +155,7 @@ static void erase_by(struct sim_part *p, const uint8_t *head)
 
     if (!type)
         p->ignored++;
-    else if (begins(p))
+    else if (begins(p, p->block_us))
         erase_block(p, address_of(head, p->address_bytes), type->size);
 }
 
@@ -166,11 +173,11 @@ static void act(struct sim_part *p, const uint8_t *head, const uint8_t *payload,
     case 0x99:
     case 0xF0: p->latch = 0; break;
     case 0x02:
-        if (begins(p))
+        if (begins(p, p->page_us))
             write_page(p, address_of(head, p->address_bytes), payload, payload_len);
         break;
     case 0xC7:
-        if (begins(p))
+        if (begins(p, p->chip_us))
             fill(p->memory, p->capacity, 0xFF);
         break;
     default: erase_by(p, head); break;
@@ -181,21 +188,36 @@ static void act(struct sim_part *p, const uint8_t *head, const uint8_t *payload,
 int sim_exchange(void *part, const uint8_t *head, size_t head_len, const uint8_t *payload, size_t payload_len,
                  uint8_t *reply, size_t reply_len)
 {
-    struct sim_part *p = part;
+    struct sim_part *p = (struct sim_part *)part;
+    uint32_t number = p->transactions++;
     uint8_t bytes[8] = {0};
     size_t i;
 
-    if (p->transactions++ == p->fails_at)
+    p->clock += 2;
+    if (number >= p->fails_at && number - p->fails_at <= p->fails_for)
         return 1;
     for (i = 0; i < head_len && i < sizeof bytes; i++)
         bytes[i] = head[i];
     if (bytes[0] == 0x05 || bytes[0] == 0x70) {
         poll(p, bytes[0], reply, reply_len);
-    } else if (p->busy_left > 0 || p->stuck) {
+    } else if (is_busy(p)) {
         p->ignored++;
         fill(reply, reply_len, 0xFF);
     } else {
         act(p, bytes, payload, payload_len, reply, reply_len);
     }
-    return 0;
+    return number == p->lost_at;
+}
+
+void sim_delay(void *part, uint32_t microseconds)
+{
+    struct sim_part *p = (struct sim_part *)part;
+
+    p->clock += microseconds;
+}
+
+void sim_unstick(struct sim_part *p)
+{
+    p->stuck = 0;
+    p->stuck_from = SIM_NEVER;
 }

@@ -1,9 +1,9 @@
 /*
- * moss_flash.h: the C interface of the proved SPI NOR flash driver.
+ * moss_flash.h: the C interface of the proved SPI NOR flash driver (x86-64 only).
  *
  * The driver never touches the bus and never waits. A session is 256 bytes that the caller lends. Start a command; while
- * the result is MOSS_FLASH_SEND, carry out the transaction in the event record and hand its reply to moss_flash_step; any other
- * result is the command's answer. host/moss_flash_host.c is that loop. docs/MANUAL.md is the manual.
+ * the result is MOSS_FLASH_SEND, carry out the transaction in the event record and hand its reply to moss_flash_step; any
+ * other result is the command's answer. host/moss_flash_host.c is that loop. docs/MANUAL.md is the manual.
  *
  * Rules for every call:
  *   - A slice is a pointer and a number of bytes. The pointer is valid for that many bytes. Where the number is 0 the
@@ -23,13 +23,22 @@
 extern "C" {
 #endif
 
+/* ---- version: major, minor, patch, a byte each. It changes with this interface */
+
+#define MOSS_FLASH_VERSION 0x000200u
+
+/* The version of the archive. If it is not MOSS_FLASH_VERSION, header and archive are of different releases. */
+uint32_t moss_flash_version(void);
+
 /* ---- sizes, in bytes */
 
 #define MOSS_FLASH_SESSION_SIZE 256  /* a session, exactly */
 #define MOSS_FLASH_EVENT_SIZE 64     /* an event record, at least */
 #define MOSS_FLASH_SETTINGS_SIZE 32  /* a settings record, at least */
+#define MOSS_FLASH_PARAMS_SIZE 192   /* a parameters record, at least */
 #define MOSS_FLASH_ENTRY_SIZE 16     /* one entry of an erase plan */
-#define MOSS_FLASH_SFDP_ROOM 2056    /* the working buffer of moss_flash_read_params, at least */
+#define MOSS_FLASH_SFDP_ROOM 2056    /* the working buffer of moss_flash_read_params, at least; also its longest reply */
+#define MOSS_FLASH_ID_REPLY 16       /* the longest reply of moss_flash_read_jedec_id */
 #define MOSS_FLASH_HEAD_MOST 6       /* the longest head of a transaction */
 
 /* ---- results
@@ -47,11 +56,12 @@ extern "C" {
 
 /* Verify found a byte that is not what was written: address, wrote, read in the event record.
  * Left: all is erased and written; the working buffer holds every byte of the span as it should be; settings as before.
- * Next: program the span again from a copy of the working buffer; if that fails too, the block is worn or protected. */
+ * Next: erase the span and write it again from the working buffer (moss_flash_host_restore); if that does not verify
+ * either, the block is worn or protected. */
 #define MOSS_FLASH_READBACK_ERROR 1
 
 /* The ID has no manufacturer: byte 0 of the short reply is 7F, and so are bytes 1 to 13 of the long one.
- * Left: settings as before. Next: look at the wiring; a bus that is stuck high or a wrong mode reads like this. */
+ * Left: settings as before. Next: check the wiring; a bus that is stuck high or a wrong mode reads like this. */
 #define MOSS_FLASH_INVALID_MANUFACTURER 2
 
 /* The first SFDP parameter header is not the basic table (ID FF00) or its major is not 1.
@@ -63,7 +73,7 @@ extern "C" {
 #define MOSS_FLASH_INVALID_SFDP_PARAMS 4
 
 /* The range is empty, or passes the address bytes' limit or the capacity; or the plan's span does.
- * The reported address is in the event record. Refused. Next: mend the range, the capacity or the address bytes. */
+ * The reported address is in the event record. Refused. Next: correct the range, the capacity or the address bytes. */
 #define MOSS_FLASH_INVALID_ADDRESS 5
 
 /* The parameters rule out both ways of a software reset. Refused. Next: reset by pin or by power. */
@@ -75,30 +85,32 @@ extern "C" {
 
 /* The host said that the transaction failed, or the reply has another length than was asked.
  * Left: the command is over; the flash is as the transactions before left it, and the failed one may or may not have
- * acted. After a program the working buffer keeps the restore data gathered so far. An out buffer of a read is as before.
- * Settings as before. Next: see to the bus, then look at the part (moss_flash_is_busy) and write the span again from the
- * working buffer if an erase had been sent. */
+ * acted. After a program the working buffer keeps the restore data gathered so far: all of it, once a 06 was sent. An out
+ * buffer of a read is as before. Settings as before. Next: repair the bus; wait until the part is idle; if a program had
+ * sent a 06, erase its span and write it again from the working buffer (moss_flash_host_restore); else start again. */
 #define MOSS_FLASH_ACCESS 8
 
 /* The last poll that the limit allows still says busy.
  * Left: the command is over; the part may still be at work. After a program the working buffer keeps the restore data.
- * Settings as before. Next: keep the working buffer; wait until moss_flash_is_busy says no, or reset the part; then write the
- * span again from the working buffer. A limit that is too low for the part gives this too. */
+ * Settings as before. Next: keep the working buffer; wait until moss_flash_is_busy says no, or reset the part; then erase
+ * the span and write it again from the working buffer (moss_flash_host_restore). A limit that is too low, or polls that
+ * follow each other too fast, give this too. */
 #define MOSS_FLASH_BUSY 9
 
-/* A setter's argument is outside its limits. Refused. Next: mend the argument. */
+/* A setter's argument is outside its limits. Refused. Next: correct the argument. */
 #define MOSS_FLASH_BAD_SETTING 10
 
 /* A lent room is too small; the need is in the event record.
- * From a start: refused. From moss_flash_step: the reply was not used, and the command waits unchanged; call moss_flash_step again
- * with the same reply and enough room. For an event record or a settings record that is too short the result alone tells. */
+ * From a start: refused. From moss_flash_step: the reply was not used, and the command waits unchanged; call
+ * moss_flash_step again with the same reply and enough room. For a record that is too short the result alone tells. */
 #define MOSS_FLASH_NO_ROOM 11
 
 /* No SFDP signature. Left: settings and parameters as before. Next: set sizes by hand, or reject the part. */
 #define MOSS_FLASH_NO_SFDP 12
 
-/* The session is not 256 bytes, or not bytes that a session packs to; or a command runs, and this was a start or a setter.
- * Refused. Next: if a command runs, step it to its answer; else the bytes were damaged: moss_flash_new, and the settings again. */
+/* The session is not 256 bytes, or not bytes that a session packs to; or a command runs, and this was a start or a
+ * setter. Refused. Next: if a command runs, step it to its answer, or abandon it: moss_flash_step with failed = 1. Else the
+ * bytes were damaged: moss_flash_new, and the settings again. */
 #define MOSS_FLASH_BAD_SESSION 13
 
 /* ---- the event record: offsets */
@@ -128,6 +140,53 @@ extern "C" {
 #define MOSS_FLASH_SETTINGS_PAGE_SIZE 16   /* 32 bits; 0: unset, and 256 is used */
 #define MOSS_FLASH_SETTINGS_ERASE_SIZE 20  /* 32 bits; 0: unset */
 #define MOSS_FLASH_SETTINGS_DENSITY 24     /* 64 bits, in bits; 0: unknown */
+
+/* ---- the parameters record: offsets. All is 0 until a table was read */
+
+#define MOSS_FLASH_PARAMS_KNOWN 0          /* 1 once SFDP parameters were read */
+#define MOSS_FLASH_PARAMS_EXTENDED 1       /* 1 if dwords 10 to 16 were read; else what comes from them is unknown and 0 */
+#define MOSS_FLASH_PARAMS_MAJOR 2
+#define MOSS_FLASH_PARAMS_MINOR 3
+#define MOSS_FLASH_PARAMS_ADDRESS_BYTES 4  /* 0: three, 1: three or four, 2: four, 3: reserved */
+#define MOSS_FLASH_PARAMS_4K_ERASE 5       /* 1 if 4 KiB erase is supported */
+#define MOSS_FLASH_PARAMS_4K_OPCODE 6
+#define MOSS_FLASH_PARAMS_VOLATILE_WE 7    /* write-enable for volatile status bits: 50 or 06 */
+#define MOSS_FLASH_PARAMS_VOLATILE_PROTECT 8
+#define MOSS_FLASH_PARAMS_GRANULARITY 9
+#define MOSS_FLASH_PARAMS_POLL_FLAG 10
+#define MOSS_FLASH_PARAMS_POLL_STATUS 11
+#define MOSS_FLASH_PARAMS_RESET_F0 12
+#define MOSS_FLASH_PARAMS_RESET_66_99 13
+#define MOSS_FLASH_PARAMS_EXIT_E9 14       /* E9 leaves 4-byte addresses */
+#define MOSS_FLASH_PARAMS_ENTER_B7 15      /* B7 enters them */
+#define MOSS_FLASH_PARAMS_VOLATILITY 16    /* of status 1: MOSS_FLASH_VOLATILITY_ below; counts where EXTENDED is 1 */
+#define MOSS_FLASH_PARAMS_PAGE_SIZE 20     /* 32 bits */
+#define MOSS_FLASH_PARAMS_DENSITY 24       /* 64 bits, in bits */
+#define MOSS_FLASH_PARAMS_TYPES 32         /* four erase types, 24 bytes each */
+#define MOSS_FLASH_PARAMS_TYPE_SIZE 24
+#define MOSS_FLASH_PARAMS_TYPE_COUNT 4
+#define MOSS_FLASH_PARAMS_TIMES 128        /* typical and maximum time in µs, 64 bits each, of the four below, in order */
+
+/* of an erase type, from its first byte */
+#define MOSS_FLASH_TYPE_OPCODE 0
+#define MOSS_FLASH_TYPE_TIMED 1            /* 1 if its times are known */
+#define MOSS_FLASH_TYPE_BLOCK_SIZE 4       /* 32 bits; 0: no such type */
+#define MOSS_FLASH_TYPE_TYPICAL 8          /* 64 bits, µs */
+#define MOSS_FLASH_TYPE_MAXIMUM 16         /* 64 bits, µs */
+
+/* which time */
+#define MOSS_FLASH_TIME_PAGE 0             /* a page write */
+#define MOSS_FLASH_TIME_CHIP 1             /* a chip erase */
+#define MOSS_FLASH_TIME_FIRST_BYTE 2       /* the first byte of a write */
+#define MOSS_FLASH_TIME_LATER_BYTE 3       /* each later byte */
+
+/* how status 1 is written, and whether it keeps its value */
+#define MOSS_FLASH_VOLATILITY_NON_VOLATILE_06 0
+#define MOSS_FLASH_VOLATILITY_VOLATILE_06 1
+#define MOSS_FLASH_VOLATILITY_VOLATILE_50 2
+#define MOSS_FLASH_VOLATILITY_NON_VOLATILE_06_VOLATILE_50 3
+#define MOSS_FLASH_VOLATILITY_MIXED_06 4
+#define MOSS_FLASH_VOLATILITY_RESERVED 5
 
 /* ---- an entry of an erase plan: offsets */
 
@@ -162,6 +221,10 @@ uint8_t moss_flash_clear_capacity(uint8_t *session, size_t session_len);
 
 /* Writes the settings record. 0; 13 for bad bytes; 11 if settings_len is under 32, and then nothing is written. */
 uint8_t moss_flash_settings(const uint8_t *session, size_t session_len, uint8_t *settings, size_t settings_len);
+
+/* Writes the parameters record: what the part's table said. 0; 13 for bad bytes; 11 if params_len is under 192, and then
+ * nothing is written. A command may be running. */
+uint8_t moss_flash_params(const uint8_t *session, size_t session_len, uint8_t *params, size_t params_len);
 
 /* ---- starts
  *
@@ -230,6 +293,12 @@ uint8_t moss_flash_event(const uint8_t *session, size_t session_len, uint8_t *ev
 uint8_t moss_flash_make_erase_plan(const uint8_t *session, size_t session_len, uint32_t address, uint64_t length,
                               uint8_t *entries, size_t entries_len, uint8_t *event, size_t event_len);
 
+/* The span that moss_flash_program of these bytes would erase and write again, from the first byte of its first block to
+ * the last byte of its last one: 0 with the first address and the length, which is also what its working buffer needs.
+ * Else what the program would answer before it asks for room: 5, 7, 5 for the span; or 13. A command may be running. */
+uint8_t moss_flash_span(const uint8_t *session, size_t session_len, uint32_t address, uint64_t length, uint8_t *event,
+                        size_t event_len);
+
 /* ---- readers of the records */
 
 static inline uint32_t moss_flash_le32(const uint8_t *p)
@@ -274,6 +343,9 @@ static inline uint8_t moss_flash_event_read(const uint8_t *event) { return event
 static inline uint64_t moss_flash_event_need(const uint8_t *event) { return moss_flash_event_a(event); }
 /* Of answer 0 of a plan: how many entries it has. */
 static inline uint64_t moss_flash_event_count(const uint8_t *event) { return moss_flash_event_a(event); }
+/* Of answer 0 of moss_flash_span: the first address, and the length. */
+static inline uint32_t moss_flash_event_base(const uint8_t *event) { return moss_flash_le32(event + MOSS_FLASH_EVENT_A); }
+static inline uint64_t moss_flash_event_span(const uint8_t *event) { return moss_flash_event_b(event); }
 /* Of answer 0 of moss_flash_is_busy and moss_flash_is_protected: 0 or 1. */
 static inline uint8_t moss_flash_event_yes(const uint8_t *event) { return event[MOSS_FLASH_EVENT_A]; }
 /* Of answer 0 of moss_flash_read_jedec_id: how many 7F came before the manufacturer, the manufacturer, the device. */
@@ -298,6 +370,33 @@ static inline uint64_t moss_flash_settings_capacity(const uint8_t *s) { return m
 static inline uint32_t moss_flash_settings_page_size(const uint8_t *s) { return moss_flash_le32(s + MOSS_FLASH_SETTINGS_PAGE_SIZE); }
 static inline uint32_t moss_flash_settings_erase_size(const uint8_t *s) { return moss_flash_le32(s + MOSS_FLASH_SETTINGS_ERASE_SIZE); }
 static inline uint64_t moss_flash_settings_density(const uint8_t *s) { return moss_flash_le64(s + MOSS_FLASH_SETTINGS_DENSITY); }
+
+/* Of the parameters record. type: 0 to 3; one with block size 0 is not there. time: MOSS_FLASH_TIME_. */
+static inline uint8_t moss_flash_params_known(const uint8_t *p) { return p[MOSS_FLASH_PARAMS_KNOWN]; }
+static inline uint8_t moss_flash_params_extended(const uint8_t *p) { return p[MOSS_FLASH_PARAMS_EXTENDED]; }
+static inline uint8_t moss_flash_params_address_bytes(const uint8_t *p) { return p[MOSS_FLASH_PARAMS_ADDRESS_BYTES]; }
+static inline uint8_t moss_flash_params_volatility(const uint8_t *p) { return p[MOSS_FLASH_PARAMS_VOLATILITY]; }
+static inline uint32_t moss_flash_params_page_size(const uint8_t *p) { return moss_flash_le32(p + MOSS_FLASH_PARAMS_PAGE_SIZE); }
+static inline uint64_t moss_flash_params_density(const uint8_t *p) { return moss_flash_le64(p + MOSS_FLASH_PARAMS_DENSITY); }
+static inline const uint8_t *moss_flash_params_type(const uint8_t *p, unsigned type)
+{
+    return p + MOSS_FLASH_PARAMS_TYPES + MOSS_FLASH_PARAMS_TYPE_SIZE * type;
+}
+static inline uint64_t moss_flash_params_typical(const uint8_t *p, unsigned time)
+{
+    return moss_flash_le64(p + MOSS_FLASH_PARAMS_TIMES + 16 * time);
+}
+static inline uint64_t moss_flash_params_maximum(const uint8_t *p, unsigned time)
+{
+    return moss_flash_le64(p + MOSS_FLASH_PARAMS_TIMES + 16 * time + 8);
+}
+
+/* type: what moss_flash_params_type gave. */
+static inline uint8_t moss_flash_type_opcode(const uint8_t *type) { return type[MOSS_FLASH_TYPE_OPCODE]; }
+static inline uint8_t moss_flash_type_timed(const uint8_t *type) { return type[MOSS_FLASH_TYPE_TIMED]; }
+static inline uint32_t moss_flash_type_size(const uint8_t *type) { return moss_flash_le32(type + MOSS_FLASH_TYPE_BLOCK_SIZE); }
+static inline uint64_t moss_flash_type_typical(const uint8_t *type) { return moss_flash_le64(type + MOSS_FLASH_TYPE_TYPICAL); }
+static inline uint64_t moss_flash_type_maximum(const uint8_t *type) { return moss_flash_le64(type + MOSS_FLASH_TYPE_MAXIMUM); }
 
 /* entry: the first byte of a record of 16 bytes. */
 static inline uint8_t moss_flash_entry_opcode(const uint8_t *entry) { return entry[MOSS_FLASH_ENTRY_OPCODE]; }

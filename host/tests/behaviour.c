@@ -3,7 +3,6 @@
 #include <stdlib.h>
 #include <string.h>
 
-#include "moss_flash_host.h"
 #include "rig.h"
 
 #define S(g) (g)->session, sizeof (g)->session
@@ -856,80 +855,6 @@ static void random_sectors(void)
     free(image);
 }
 
-/* ---- the host's own files */
-
-static uint64_t delayed;
-
-static void count_delay(void *context, uint32_t microseconds)
-{
-    (void)context;
-    delayed += microseconds;
-}
-
-static struct moss_flash_host h;
-static uint8_t host_reply[4096], host_work[4096];
-
-static void make_host(struct rig *g)
-{
-    make_rig(g, BY_SFDP, 16);
-    h.exchange = sim_exchange;
-    h.delay = count_delay;
-    h.context = &g->part;
-    h.reply = host_reply;
-    h.reply_room = sizeof host_reply;
-    CHECK(moss_flash_host_init(&h) == MOSS_FLASH_DONE);
-    CHECK(moss_flash_host_read_params(&h, host_work, sizeof host_work) == MOSS_FLASH_DONE);
-    CHECK(moss_flash_set_poll_limit(h.session, 256, 4) == MOSS_FLASH_DONE);
-}
-
-/* The part hangs after the erase; later the span is written again from the working buffer. */
-static void test_restore(void)
-{
-    struct rig g;
-    uint8_t *before = malloc(CAPACITY);
-    uint8_t page[100];
-    uint32_t base = 0;
-    uint64_t span = 0;
-
-    make_host(&g);
-    memcpy(before, g.memory, CAPACITY);
-    memcpy(before + 4600, data, 20);
-    g.part.stuck_from = g.part.operations;
-    CHECK(moss_flash_host_program(&h, 4600, data, 20, 1, host_work, 4096) == MOSS_FLASH_BUSY && g.memory[4096] == 0xFF);
-    CHECK(h.touched == 1 && !memcmp(host_work, before + 4096, 4096));
-    g.part.stuck = 0;
-    g.part.stuck_from = SIM_NEVER;
-    CHECK(moss_flash_host_is_busy(&h) == MOSS_FLASH_DONE && moss_flash_event_yes(h.event) == 0 && h.touched == 0);
-    CHECK(moss_flash_host_span(&h, 4600, 20, &base, &span) == MOSS_FLASH_DONE && base == 4096 && span == 4096);
-    CHECK(moss_flash_host_restore(&h, base, host_work, (size_t)span, page, 0) == MOSS_FLASH_NO_ROOM);
-    CHECK(moss_flash_host_restore(&h, base, host_work, (size_t)span, page, sizeof page) == MOSS_FLASH_DONE);
-    CHECK(!memcmp(before, g.memory, CAPACITY));
-    rig_free(&g);
-    free(before);
-}
-
-static void test_host(void)
-{
-    uint8_t *w = host_work;
-    struct rig g;
-
-    make_host(&g);
-    h.reply_room = 4095;
-    CHECK(moss_flash_host_read(&h, 0, w, 4096) == MOSS_FLASH_ACCESS && moss_flash_host_read(&h, 0, w, 4095) == MOSS_FLASH_DONE);
-    CHECK(!memcmp(w, g.memory, 4095));
-    CHECK(moss_flash_host_legacy_read(&h, 1, w, 5) == MOSS_FLASH_DONE && w[0] == g.memory[1]);
-    CHECK(moss_flash_host_erase_sectors(&h, 0, 4096) == MOSS_FLASH_DONE && g.memory[4095] == 0xFF && g.memory[4096] != 0xFF);
-    delayed = 0;
-    h.poll_gap = 1000;
-    g.part.busy_polls = 3;
-    CHECK(moss_flash_host_erase(&h) == MOSS_FLASH_DONE && g.memory[CAPACITY - 1] == 0xFF && delayed == 3000);
-    CHECK(moss_flash_host_erase_sectors(&h, 0, 4096) == MOSS_FLASH_DONE && delayed == 3000 + 24000 + 3000);
-    CHECK(moss_flash_host_program_data(&h, 0, data, 20, w, 20) == MOSS_FLASH_DONE && !memcmp(g.memory, data, 20));
-    CHECK(moss_flash_host_reset(&h) == MOSS_FLASH_DONE && moss_flash_host_is_protected(&h) == MOSS_FLASH_DONE);
-    CHECK(moss_flash_host_read_jedec_id(&h) == MOSS_FLASH_DONE && !strcmp(moss_flash_host_answer_name(13), "BadSession"));
-    rig_free(&g);
-}
-
 int main(void)
 {
     int kind, command, i;
@@ -949,8 +874,6 @@ int main(void)
     test_readback();
     test_plans();
     test_timed_plan();
-    test_restore();
-    test_host();
     for (kind = BY_HAND; kind <= BY_SFDP; kind++)
         for (command = 0; command < COMMANDS; command++) {
             test_each_fault(kind, command);

@@ -201,7 +201,7 @@ static void lend_all(void)
 #define AT(which) fences[which].at, fences[which].length
 
 enum { STEP, TELL, NEW, SETTER, GETTER, READ, LEGACY, PARAMS, ERASE, SECTORS, PROGRAM, WRITE, RESET, ID, BUSY, PROTECTED,
-       PLAN, EXPORTS };
+       SHOWN, SPAN, PLAN, EXPORTS };
 
 static uint8_t call_setter(void)
 {
@@ -237,6 +237,8 @@ static uint8_t call(int which)
     case ID: return moss_flash_read_jedec_id(AT(SESSION), AT(EVENT));
     case BUSY: return moss_flash_is_busy(AT(SESSION), AT(EVENT));
     case PROTECTED: return moss_flash_is_protected(AT(SESSION), AT(EVENT));
+    case SHOWN: return moss_flash_params(AT(SESSION), AT(SLOTS));
+    case SPAN: return moss_flash_span(AT(SESSION), address, some_plan_length(), AT(EVENT));
     default: return moss_flash_make_erase_plan(AT(SESSION), address, some_plan_length(), AT(SLOTS), AT(EVENT));
     }
 }
@@ -272,7 +274,7 @@ static int is_refusal(uint8_t r)
 
 static int has_event(int which)
 {
-    return which != NEW && which != SETTER && which != GETTER;
+    return which != NEW && which != SETTER && which != GETTER && which != SHOWN;
 }
 
 /* Whether an event record has its form; the payload lies in so many bytes of room. */
@@ -311,8 +313,8 @@ static void check_event(int which, uint8_t r)
 static void check_buffers(int which, uint8_t r)
 {
     int writes_work = which == STEP || which == PROGRAM || which == WRITE;
-    int writes_slots = (which == PLAN || which == GETTER) && r == MOSS_FLASH_DONE;
-    int writes_session = which != TELL && which != GETTER && which != PLAN;
+    int writes_slots = (which == PLAN || which == GETTER || which == SHOWN) && r == MOSS_FLASH_DONE;
+    int writes_session = which != TELL && which != GETTER && which != SHOWN && which != SPAN && which != PLAN;
 
     CHECK(guards_stand() && unchanged(REPLY) && unchanged(DATA));
     MUST(unchanged(WORK) || (writes_work && !is_refusal(r)));

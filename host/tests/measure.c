@@ -35,6 +35,9 @@ static void set_poll_limit(void) { result = moss_flash_set_poll_limit(SESSION, 1
 static void set_capacity(void) { result = moss_flash_set_capacity(SESSION, CAPACITY); }
 static void clear_capacity(void) { result = moss_flash_clear_capacity(SESSION); }
 static void get_settings(void) { result = moss_flash_settings(SESSION, settings, sizeof settings); }
+static void get_params(void) { result = moss_flash_params(SESSION, slots, sizeof slots); }
+static void span(void) { result = moss_flash_span(SESSION, 100, 200000, EVENT); }
+static void version(void) { result = moss_flash_version() == MOSS_FLASH_VERSION ? 0 : 1; }
 static void tell(void) { result = moss_flash_event(SESSION, EVENT); }
 static void read_bytes(void) { result = moss_flash_read(SESSION, 100, 5000, sizeof work, EVENT); }
 static void legacy_read(void) { result = moss_flash_legacy_read(SESSION, 100, 5000, sizeof work, EVENT); }
@@ -99,6 +102,7 @@ static struct measured exports[] = {
     {"moss_flash_erase_sectors", erase_sectors, 0}, {"moss_flash_program", program, 0}, {"moss_flash_program_data", program_data, 0},
     {"moss_flash_reset", reset, 0}, {"moss_flash_read_jedec_id", read_id, 0}, {"moss_flash_is_busy", is_busy, 0},
     {"moss_flash_is_protected", is_protected, 0}, {"moss_flash_make_erase_plan", plan, 0},
+    {"moss_flash_params", get_params, 0}, {"moss_flash_span", span, 0}, {"moss_flash_version", version, 0},
 };
 
 #define EXPORTS (sizeof exports / sizeof exports[0])

@@ -1,5 +1,6 @@
 // The driver for C: numbers and byte slices. The session is 256 lent bytes, an event is a record in 64 lent bytes. Each export is
 // its function of crates/flash, between unpacking and packing. include/moss_flash.h declares them.
+pub mod asked_c;
 pub mod plan_c;
 pub mod records;
 pub mod settings_c;

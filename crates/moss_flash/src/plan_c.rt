@@ -110,7 +110,7 @@ fn plan_into(entries: &mut [u8], q: PlanQuery) -> Planned
     }
 }
 
-fn query_of(s: Session, address: u32, size: u64) -> PlanQuery
+pub fn query_of(s: Session, address: u32, size: u64) -> PlanQuery
     ensures { λ r. ⌜ r ≡ queryOf s address size ⌝ }
 {
     let settings = s.settings;
