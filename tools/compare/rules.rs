@@ -305,6 +305,7 @@ impl<'a> Rules<'a> {
 
     fn after(&mut self, case: &Case, top: u64) -> Run<Vec<u8>> {
         let end = case.address as u64 + case.length;
+        // 2^32 bytes at address 0, where the Rust does not panic, are too large to play.
         if end >= 1 << 32 && self.slip(Class::C3) {
             return Err(PANICS);
         }
