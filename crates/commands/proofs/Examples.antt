@@ -2,7 +2,7 @@
 use mathlib.Core.Path.{_≡_, refl}
 use mathlib.Core.Bool.{true, false}
 use mathlib.Core.List.{List, [], _∷_}
-use mathlib.Core.Option.{some}
+use mathlib.Core.Option.{Option, some, none}
 use Prim.Native.Nat.{ℕ}
 use lib.ListN.{replicate}
 use Rattle.dwords.specs.Dwords.{byteAt}
@@ -17,9 +17,10 @@ use Rattle.plans.specs.Available.{ofSettings, available}
 use Rattle.commands.specs.declared.Answer.{Answer}
 use Rattle.commands.specs.declared.Answer.the-variants.{Done, DoneBool, ReadbackError, NoRoom}
 use Rattle.commands.specs.Script.{Sent, Kept, Script, after, roomed, over, each}
-use Rattle.commands.specs.Host.{Reply, got, Outcome, full, tally, tree, play, pollsIn}
+use Rattle.commands.specs.Host.{Reply, failed, got, Outcome, full, tally, tree, play, pollsIn}
 use Rattle.commands.specs.Transactions.{plain, at, fastRead, pageDelay, byFlag, ready, polls, toPageEnd, partsIn, parts}
-use Rattle.commands.specs.Commands.{blank, mismatch, written, program, isBusy, isProtected}
+use Rattle.commands.specs.Commands.{blank, mismatch, written, jobOf, program, isBusy, isProtected}
+use Rattle.commands.specs.Leaves.{fetched, gathered, LeftByProgram}
 use Rattle.commands.specs.Wire.{highFirst, wire}
 
 -- erase size 256, opcode 20, page 256, capacity 1,024, 3 address bytes
@@ -119,6 +120,20 @@ pub run′ : (p : FlashParams)
     → Ran (program 0x101 (2 ∷ []) true (started p)) replies′ list′ (outcome (started p) (ReadbackError 0x101 2 3) 3 (7 ∷ 2 ∷ replicate 254 0xFF))
 unfolding tree play full tally pollsIn after over each program acceptedRange available ofSettings present kept plan planIn nextPos entryAt chosen chosenFrom beats cover blockBase blockEnd spanStart spanEnd byFlag ready polls byteAt pageDelay pageOf toPageEnd partsIn parts blank written mismatch
 run′ p = (refl, refl, refl)
+
+-- ---- the same, but the read after the data fails: 8, and the 07 is in the room. `ProgramLeaves` at this run, computed
+abbrev pub replies″ : List Reply
+replies″ = got (7 ∷ []) ∷ failed ∷ []
+
+abbrev pub cameTo : Outcome → Option Outcome → Outcome
+cameTo o none = o
+cameTo o (some o′) = o′
+
+pub run″ : (p : FlashParams) (o : Outcome)
+    → LeftByProgram (jobOf (started p) 0x101 1 true) (2 ∷ []) (started p .room) replies″ (play (tree 0 (program 0x101 (2 ∷ []) true (started p))) replies″ .0)
+    (cameTo o (play (tree 0 (program 0x101 (2 ∷ []) true (started p))) replies″ .1))
+unfolding tree play full tally after over each program acceptedRange available ofSettings present kept plan planIn nextPos entryAt chosen chosenFrom beats cover blockBase blockEnd spanStart spanEnd fetched gathered
+run″ p o = record { room = refl; broken = λ _. (refl, (refl, (refl, tt))); holds = refl }
 
 -- ---- room for 255 bytes: 11 with the need, nothing sent, the room as it was
 abbrev pub short : FlashParams → Kept

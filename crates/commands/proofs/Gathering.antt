@@ -2,24 +2,26 @@
 use mathlib.Core.Path.{_≡_, refl, sym, ap, _∙_}
 use mathlib.Core.Bool.{Bool, true, false}
 use mathlib.Core.Logic.{_⊎_, inl, inr, ⊎-elim}
-use mathlib.Core.List.{List, [], _∷_, _++_}
+use mathlib.Core.List.{List, [], _∷_}
 use mathlib.Core.Option.{Option, some, none}
-use Prim.Native.Nat.{ℕ, suc, _+_, _-_, _≤_, _<_}
+use Prim.Native.Nat.{ℕ, zero, suc, _+_, _-_, _≤_, _<_}
 use native.Mathlib.Omega.{arith}
 use lib.Dec.{eqb, ltb}
 use lib.ListN.{length, take, drop}
 use lib.Seq.{take-append-seam}
-use borrow.Author.Tests.{ltb-true}
+use borrow.Author.Tests.{ltb-true, ltb-false}
 use Rattle.settings.specs.Limits.{pageOf}
 use Rattle.erase_plan.specs.declared.EraseEntry.{EraseEntry}
+use Rattle.erase_plan.specs.Good.{Each}
+use Rattle.erase_plan.proofs.Lists.{no-true}
 use Rattle.commands.specs.declared.Answer.{Answer}
 use Rattle.commands.specs.declared.Answer.the-variants.{Done, ReadbackError, Access}
 use Rattle.commands.specs.Script.{Sent, Kept, Cmd, after, give, when, roomed, over, each}
-use Rattle.commands.specs.Host.{Reply, got, Outcome, tree, play}
+use Rattle.commands.specs.Host.{Reply, got, Outcome, Tree, ends, full, tally, tree, play}
 use Rattle.commands.specs.Transactions.{fastRead, eraseBlock, pageProgram, operation, parts, bytesOf, writePart}
 use Rattle.commands.specs.Commands.{planOf, eraseOne, mismatch, judge, fetch, verify, written, Job, writing, erasing, readAfter, readBefore}
-use Rattle.commands.specs.Leaves.{refused, Beyond, replied, Whole, Gathered}
-use Rattle.commands.proofs.Hosts.{Fails, one-sent}
+use Rattle.commands.specs.Leaves.{refused, Beyond, fetched, gathered}
+use Rattle.commands.proofs.Hosts.{Fails, full-got}
 use Rattle.commands.proofs.Endings.{along, Ends, ends-then, ends-each, ends-operation, Sized, ends-host}
 use Rattle.commands.proofs.Rooms.{over-nil, over-here, over-rest, over-before, beyond-over, beyond-more}
 use Rattle.commands.proofs.Checks.{Placed}
@@ -70,133 +72,191 @@ module _ (w : Kept) where
       (λ u. stays-writing J (written (J .end - J .base) (J .last - J .base) (w .room)))
 
 -- ---- one of the two reads
-record Fetched (n : ℕ) (rs : List Reply) : Type 0 where
-  bytes : List ℕ
-  rest : List Reply
-  whole : Whole n bytes
-  replies : rs ≡ replied bytes ++ rest
+abbrev Reads : List Sent → Type 0
+Reads sent = Each (λ (s : Sent). s .opcode ≡ 0x0B) sent
 
-abbrev nothing : (n : ℕ) (rs : List Reply) → Fetched n rs
-nothing n rs = record { bytes = []; rest = rs; whole = inl refl; replies = refl }
+fetched-none : (n : ℕ) (rs : List Reply) → n ≡ 0 → fetched n rs ≡ some ([], rs)
+unfolding fetched
+fetched-none zero rs e = refl
+fetched-none (suc n) rs e = absurd (omega arith)
 
-replied-some : (bytes : List ℕ) (rest : List Reply) → 0 < length bytes → got bytes ∷ rest ≡ replied bytes ++ rest
-replied-some [] rest h = absurd (omega arith)
-replied-some (x ∷ bytes) rest h = refl
+fetched-by : (n : ℕ) (r : Reply) (rs : List Reply) (q : Option (List ℕ)) → 0 < n → full n r ≡ q
+    → fetched n (r ∷ rs) ≡ elim q [ some bytes ↦ some (bytes, rs) | none ↦ none ]
+unfolding fetched
+fetched-by zero r rs q h e = absurd (omega arith)
+fetched-by (suc n) r rs q h e = ap (λ (x : Option (List ℕ)). elim x as (λ y. Option (List ℕ × List Reply)) [ some bytes ↦ some (bytes, rs) | none ↦ none ]) e
 
 -- nothing stored
 roomed-nil : (off : ℕ) (w : Kept) → roomed w (over off [] (w .room)) ≡ w
 roomed-nil off w = ap (roomed w) (over-nil off (w .room))
 
--- what goes on with the bytes that a read has stored
-record Onward (off n : ℕ) (w : Kept) (k : Unit {0} → Cmd Answer) (rs : List Reply) (o : Outcome) : Type 0 where
-  fetched : Fetched n rs
-  behind : ℕ
-  goes : play (tree behind (k tt (roomed w (over off (fetched .bytes) (w .room))))) (fetched .rest) .1 ≡ some o
+-- the read was not answered in full: it was the last transaction
+record Missed (n : ℕ) (w : Kept) (rs : List Reply) (sent : List Sent) (o : Outcome) : Type 0 where
+  missing : fetched n rs ≡ none
+  fails : Fails w o
+  reads : Reads sent
 
-fetch-case : (t : Bool) (off a n : ℕ) (w : Kept) (k : Unit {0} → Cmd Answer) → (t ≡ true → 0 < n) → (m : ℕ) (rs : List Reply) (o : Outcome)
-    → play (tree m (after (when t (fetch off a n) w) k)) rs .1 ≡ some o → Fails w o ⊎ Onward off n w k rs o
-unfolding after
-fetch-case true off a n w k p m rs o e =
-    ⊎-elim (λ f. inl f)
-    (λ g. inr (record {
-      fetched = record {
-        bytes = g .bytes;
-        rest = g .rest;
-        whole = inr (g .sized);
-        replies = g .are ∙ replied-some (g .bytes) (g .rest) (omega (arith, p refl, g .sized));
-      };
-      behind = g .behind;
-      goes = g .goes;
-    }))
-    (one-sent w (fastRead (w .settings) a n) (λ r. k tt (roomed w (over off r (w .room)))) m rs o e)
-fetch-case false off a n w k p m rs o e =
+-- it was, and what goes on with its bytes stored
+record Onward (off n : ℕ) (w : Kept) (k : Unit {0} → Cmd Answer) (rs : List Reply) (sent : List Sent) (o : Outcome) : Type 0 where
+  bytes : List ℕ
+  rest : List Reply
+  came : fetched n rs ≡ some (bytes, rest)
+  short : length bytes ≤ n
+  behind : ℕ
+  goes : play (tree behind (k tt (roomed w (over off bytes (w .room))))) rest .1 ≡ some o
+  reads : Reads (play (tree behind (k tt (roomed w (over off bytes (w .room))))) rest .0) → Reads sent
+
+fetch-case : (t : Bool) (off a n : ℕ) (w : Kept) (k : Unit {0} → Cmd Answer) → (t ≡ true → 0 < n) → (t ≡ false → n ≡ 0) → (m : ℕ) (rs : List Reply) (o : Outcome)
+    → play (tree m (after (when t (fetch off a n) w) k)) rs .1 ≡ some o
+    → Missed n w rs (play (tree m (after (when t (fetch off a n) w) k)) rs .0) o ⊎ Onward off n w k rs (play (tree m (after (when t (fetch off a n) w) k)) rs .0) o
+unfolding after tree play
+fetch-case true off a n w k p q m [] o e = let z : _≡_ {A = ℕ} 0 1 = cc in absurd (omega arith)
+fetch-case true off a n w k p q m (r ∷ rs) o e = go (full n r) refl e
+  where
+    s : Sent
+    s = fastRead (w .settings) a n
+
+    on : Option (List ℕ) → Tree
+    on x = elim x [
+      | some bytes ↦ tree (m + tally s) (k tt (roomed w (over off bytes (w .room))))
+      | none ↦ ends (record { answer = Access; polls = m + tally s; kept = w })
+    ]
+
+    go : (x : Option (List ℕ)) → full n r ≡ x → play (on x) rs .1 ≡ some o
+        → Missed n w (r ∷ rs) (s ∷ play (on x) rs .0) o ⊎ Onward off n w k (r ∷ rs) (s ∷ play (on x) rs .0) o
+    go (some bytes) t e =
+        let g : (r ≡ got bytes) × (length bytes ≡ n) = full-got n r bytes t in
+        inr (record {
+          bytes = bytes;
+          rest = rs;
+          came = fetched-by n r rs (some bytes) (p refl) t;
+          short = omega (arith, g .1);
+          behind = m + tally s;
+          goes = e;
+          reads = λ h. (refl, h);
+        })
+    go none t e =
+        let q : o ≡ record { answer = Access; polls = m + tally s; kept = w } = cc in
+        inl (record {
+          missing = fetched-by n r rs none (p refl) t;
+          fails = (ap (λ (x : Outcome). x .kept) q, ap (λ (x : Outcome). x .answer) q);
+          reads = (refl, tt);
+        })
+fetch-case false off a n w k p q m rs o e =
     inr (record {
-      fetched = nothing n rs;
+      bytes = [];
+      rest = rs;
+      came = fetched-none n rs (q refl);
+      short = omega arith;
       behind = m;
       goes = along (λ (x : Kept). play (tree m (k tt x)) rs .1 ≡ some o) (roomed-nil off w) e;
+      reads = λ h. along (λ (x : Kept). Reads (play (tree m (k tt x)) rs .0)) (sym (roomed-nil off w)) h;
     })
-
--- ---- the two reads
-record Behind (J : Job) (w : Kept) (rs : List Reply) (o : Outcome) : Type 0 where
-  fetched : Fetched (J .last - J .end) rs
-  answer : refused (o .answer) ≡ false
-  kept : o .kept ≡ roomed w (over (J .end - J .base) (fetched .bytes) (w .room))
 
 failing : (o : Outcome) → o .answer ≡ Access → refused (o .answer) ≡ false
 unfolding refused
 failing o e = rw e
 
-after-case : (J : Job) (w : Kept) (m : ℕ) (rs : List Reply) (o : Outcome) → play (tree m (readAfter J w)) rs .1 ≡ some o → Behind J w rs o
-after-case J w m rs o e =
-    ⊎-elim
-    (λ f. record { fetched = nothing (J .last - J .end) rs; answer = failing o (f .1); kept = f .0 ∙ sym (roomed-nil (J .end - J .base) w) })
-    (λ g. let w′ : Kept = roomed w (over (J .end - J .base) (g .fetched .bytes) (w .room)) in
-    let s : Stayed w′ (o .kept) (o .answer) =
-    ends-host (Stayed w′) (erasing J (planOf w (J .from) (J .end)) w′) (stays-erasing w′ J (planOf w (J .from) (J .end))) (g .behind) (g .fetched .rest) o (g .goes) in
-    record { fetched = g .fetched; answer = s .0; kept = s .1 })
-    (fetch-case (ltb (J .end) (J .last)) (J .end - J .base) (J .end) (J .last - J .end) w _ (λ t. omega (arith, ltb-true (J .end) (J .last) t)) m rs o e)
+-- ---- the two reads
+module _ (J : Job) (rs : List Reply) (room : List ℕ) where
+  gathered-none : fetched (J .from - J .base) rs ≡ none → gathered J rs room ≡ (false, room)
+  unfolding gathered
+  gathered-none e = rw (e, gathered) refl
 
--- what a program leaves, with the data laid in
-pub record Programmed (J : Job) (d : List ℕ) (w : Kept) (rs : List Reply) (o : Outcome) : Type 0 where
+  gathered-before : (before : List ℕ) (rest : List Reply) → fetched (J .from - J .base) rs ≡ some (before, rest) → fetched (J .last - J .end) rest ≡ none
+      → gathered J rs room ≡ (false, over 0 before room)
+  unfolding gathered
+  gathered-before before rest e f = rw (e, gathered, f) refl
+
+  gathered-both : (before behind : List ℕ) (rest more : List Reply) → fetched (J .from - J .base) rs ≡ some (before, rest)
+      → fetched (J .last - J .end) rest ≡ some (behind, more) → gathered J rs room ≡ (true, over (J .end - J .base) behind (over 0 before room))
+  unfolding gathered
+  gathered-both before behind rest more e f = rw (e, gathered, f) refl
+
+-- what a program leaves, with the data laid in: the bytes that came
+pub record Gathered (J : Job) (laid : List ℕ) (new : List ℕ) : Type 0 where
+  pub before : List ℕ
+  pub behind : List ℕ
+  pub shortBefore : length before ≤ J .from - J .base
+  pub shortBehind : length behind ≤ J .last - J .end
+  pub room : new ≡ over (J .end - J .base) behind (over 0 before laid)
+
+pub record Programmed (J : Job) (d : List ℕ) (w : Kept) (rs : List Reply) (sent : List Sent) (o : Outcome) : Type 0 where
   pub answer : refused (o .answer) ≡ false
   pub kept : o .kept ≡ roomed w (o .kept .room)
-  pub gathered : Gathered J d (w .room) rs (o .kept .room)
+  pub bytes : Gathered J (over (J .from - J .base) d (w .room)) (o .kept .room)
+  pub room : o .kept .room ≡ gathered J rs (over (J .from - J .base) d (w .room)) .1
+  pub broken : gathered J rs (over (J .from - J .base) d (w .room)) .0 ≡ false → (o .answer ≡ Access) × Each (λ (s : Sent). s .opcode ≡ 0x0B) sent
 
 module _ (J : Job) (d : List ℕ) (w : Kept) where
   abbrev laid : Kept
   laid = roomed w (over (J .from - J .base) d (w .room))
 
-  pub before-case : (rs : List Reply) (o : Outcome) → play (tree 0 (readBefore J laid)) rs .1 ≡ some o → Programmed J d w rs o
+  roomOf : (w′ : Kept) (o : Outcome) → o .kept ≡ w′ → o .kept .room ≡ w′ .room
+  roomOf w′ o e = ap (λ (x : Kept). x .room) e
+
+  after-case : (before : List ℕ) (rest : List Reply) (m : ℕ) (rs : List Reply) (sent : List Sent) (o : Outcome)
+      → length before ≤ J .from - J .base → fetched (J .from - J .base) rs ≡ some (before, rest)
+      → play (tree m (readAfter J (roomed laid (over 0 before (laid .room))))) rest .1 ≡ some o
+      → (Reads (play (tree m (readAfter J (roomed laid (over 0 before (laid .room))))) rest .0) → Reads sent) → Programmed J d w rs sent o
+  after-case before rest m rs sent o l c e f =
+      ⊎-elim
+      (λ g. record {
+        answer = failing o (g .fails .1);
+        kept = along (λ (x : Kept). x ≡ roomed w (x .room)) (g .fails .0) refl;
+        bytes = record {
+          before = before;
+          behind = [];
+          shortBefore = l;
+          shortBehind = omega arith;
+          room = roomOf w′ o (g .fails .0) ∙ sym (over-nil (J .end - J .base) (w′ .room));
+        };
+        room = roomOf w′ o (g .fails .0) ∙ sym (ap (λ (x : Bool × List ℕ). x .1) (gathered-before J rs (laid .room) before rest c (g .missing)));
+        broken = λ _. (g .fails .1, f (g .reads));
+      })
+      (λ g. let w″ : Kept = roomed w′ (over (J .end - J .base) (g .bytes) (w′ .room)) in
+      let s : Stayed w″ (o .kept) (o .answer) =
+      ends-host (Stayed w″) (erasing J (planOf w″ (J .from) (J .end)) w″) (stays-erasing w″ J (planOf w″ (J .from) (J .end))) (g .behind) (g .rest) o (g .goes) in
+      record {
+        answer = s .0;
+        kept = along (λ (x : Kept). x ≡ roomed w (x .room)) (s .1) refl;
+        bytes = record { before = before; behind = g .bytes; shortBefore = l; shortBehind = g .short; room = roomOf w″ o (s .1) };
+        room = roomOf w″ o (s .1) ∙ sym (ap (λ (x : Bool × List ℕ). x .1) (gathered-both J rs (laid .room) before (g .bytes) rest (g .rest) c (g .came)));
+        broken = λ h. no-true (sym h ∙ ap (λ (x : Bool × List ℕ). x .0) (gathered-both J rs (laid .room) before (g .bytes) rest (g .rest) c (g .came)));
+      })
+      (fetch-case (ltb (J .end) (J .last)) (J .end - J .base) (J .end) (J .last - J .end) w′ _ (λ t. omega (arith, ltb-true (J .end) (J .last) t))
+      (λ t. omega (arith, ltb-false (J .end) (J .last) t)) m rest o e)
+    where
+      w′ : Kept
+      w′ = roomed laid (over 0 before (laid .room))
+
+  pub before-case : (rs : List Reply) (o : Outcome) → play (tree 0 (readBefore J laid)) rs .1 ≡ some o → Programmed J d w rs (play (tree 0 (readBefore J laid)) rs .0) o
   before-case rs o e =
       ⊎-elim
       (λ f. record {
-        answer = failing o (f .1);
-        kept = along (λ (x : Kept). x ≡ roomed w (x .room)) (f .0) refl;
-        gathered = record {
+        answer = failing o (f .fails .1);
+        kept = along (λ (x : Kept). x ≡ roomed w (x .room)) (f .fails .0) refl;
+        bytes = record {
           before = [];
           behind = [];
-          rest = rs;
-          wholeBefore = inl refl;
-          wholeBehind = inl refl;
-          replies = refl;
-          room = ap (λ (x : Kept). x .room) (f .0)
-              ∙ sym (over-nil 0 (laid .room)) ∙ sym (over-nil (J .end - J .base) (over 0 [] (laid .room)));
+          shortBefore = omega arith;
+          shortBehind = omega arith;
+          room = roomOf laid o (f .fails .0) ∙ sym (over-nil 0 (laid .room)) ∙ sym (over-nil (J .end - J .base) (over 0 [] (laid .room)));
         };
+        room = roomOf laid o (f .fails .0) ∙ sym (ap (λ (x : Bool × List ℕ). x .1) (gathered-none J rs (laid .room) (f .missing)));
+        broken = λ _. (f .fails .1, f .reads);
       })
-      (λ g. let b : Behind J (roomed laid (over 0 (g .fetched .bytes) (laid .room))) (g .fetched .rest) o =
-      after-case J (roomed laid (over 0 (g .fetched .bytes) (laid .room))) (g .behind) (g .fetched .rest) o (g .goes) in
-      record {
-        answer = b .answer;
-        kept = along (λ (x : Kept). x ≡ roomed w (x .room)) (b .kept) refl;
-        gathered = record {
-          before = g .fetched .bytes;
-          behind = b .fetched .bytes;
-          rest = b .fetched .rest;
-          wholeBefore = g .fetched .whole;
-          wholeBehind = b .fetched .whole;
-          replies = g .fetched .replies ∙ ap (λ (x : List Reply). replied (g .fetched .bytes) ++ x) (b .fetched .replies);
-          room = ap (λ (x : Kept). x .room) (b .kept);
-        };
-      })
-      (fetch-case (ltb (J .base) (J .from)) 0 (J .base) (J .from - J .base) laid _ (λ t. omega (arith, ltb-true (J .base) (J .from) t)) 0 rs o e)
+      (λ g. after-case (g .bytes) (g .rest) (g .behind) rs _ o (g .short) (g .came) (g .goes) (g .reads))
+      (fetch-case (ltb (J .base) (J .from)) 0 (J .base) (J .from - J .base) laid _ (λ t. omega (arith, ltb-true (J .base) (J .from) t))
+      (λ t. omega (arith, ltb-false (J .base) (J .from) t)) 0 rs o e)
 
 -- ---- the room so gathered
-whole-le : (n : ℕ) (bytes : List ℕ) → Whole n bytes → length bytes ≤ n
-whole-le n bytes (inl e) = rw e (omega arith)
-whole-le n bytes (inr e) = omega arith
-
-module _ (J : Job) (d old : List ℕ) (rs : List Reply) (new : List ℕ) (p : Placed J (length d) (length old)) (g : Gathered J d old rs new) where
+module _ (J : Job) (d old new : List ℕ) (p : Placed J (length d) (length old)) (g : Gathered J (over (J .from - J .base) d old) new) where
   ahead : List ℕ
   ahead = over (J .from - J .base) d old
 
   both : List ℕ
   both = over 0 (g .before) (over (J .from - J .base) d old)
-
-  short-before : length (g .before) ≤ J .from - J .base
-  short-before = whole-le (J .from - J .base) (g .before) (g .wholeBefore)
-
-  short-behind : length (g .behind) ≤ J .last - J .end
-  short-behind = whole-le (J .last - J .end) (g .behind) (g .wholeBehind)
 
   beyond-ahead : Beyond (J .last - J .base) old ahead
   unfolding ahead
@@ -204,12 +264,12 @@ module _ (J : Job) (d old : List ℕ) (rs : List Reply) (new : List ℕ) (p : Pl
 
   beyond-both : Beyond (J .last - J .base) old both
   unfolding both ahead
-  beyond-both = beyond-more (J .last - J .base) 0 (g .before) old ahead (omega (arith, short-before)) (p .fits) beyond-ahead
+  beyond-both = beyond-more (J .last - J .base) 0 (g .before) old ahead (omega (arith, g .shortBefore)) (p .fits) beyond-ahead
 
   pub gathered-beyond : Beyond (J .last - J .base) old new
   unfolding both
   gathered-beyond =
-      rw (g .room) (beyond-more (J .last - J .base) (J .end - J .base) (g .behind) old both (omega (arith, short-behind)) (p .fits) beyond-both)
+      rw (g .room) (beyond-more (J .last - J .base) (J .end - J .base) (g .behind) old both (omega (arith, g .shortBehind)) (p .fits) beyond-both)
 
   -- the data stand where they were laid
   pub gathered-data : take (length d) (drop (J .from - J .base) new) ≡ d
@@ -220,6 +280,6 @@ module _ (J : Job) (d old : List ℕ) (rs : List Reply) (new : List ℕ) (p : Pl
       ap (λ (x : List ℕ). take (length d) (drop at x)) (g .room)
       ∙ ap (λ (n : ℕ). take (length d) (drop at (over n (g .behind) both))) e
       ∙ over-before at (length d) (g .behind) both (omega (arith, beyond-both .long))
-      ∙ ap (take (length d)) (over-rest at 0 (g .before) ahead (omega arith) (omega (arith, short-before)))
+      ∙ ap (take (length d)) (over-rest at 0 (g .before) ahead (omega arith) (omega (arith, g .shortBefore)))
       ∙ ap (take (length d)) (over-here at d old (omega arith))
       ∙ take-append-seam d (drop (at + length d) old)

@@ -84,7 +84,7 @@ pub record GoesOn (s : Sent) (f : List ℕ → Script Answer) (rs : List Reply) 
 abbrev pub Fails : Kept → Outcome → Type 0
 Fails w o = (o .kept ≡ w) × (o .answer ≡ Access)
 
-full-got : (n : ℕ) (r : Reply) (bytes : List ℕ) → full n r ≡ some bytes → (r ≡ got bytes) × (length bytes ≡ n)
+pub full-got : (n : ℕ) (r : Reply) (bytes : List ℕ) → full n r ≡ some bytes → (r ≡ got bytes) × (length bytes ≡ n)
 unfolding full
 full-got n failed bytes e = let z : _≡_ {A = ℕ} 0 1 = cc in absurd (omega arith)
 full-got n (got l) bytes e = go (eqb (length l) n) refl e

@@ -24,7 +24,7 @@ use Rattle.commands.specs.Leaves.{refused, OfBytes, roomNeed, Beyond, Le
 use Rattle.commands.proofs.Hosts.{one-sent, at-done, at-stop}
 use Rattle.commands.proofs.Endings.{along, Ends, ends-then, ends-each, ends-operation, Sized, ends-host}
 use Rattle.commands.proofs.Rooms.{beyond-same, beyond-over}
-use Rattle.commands.proofs.Gathering.{Programmed, before-case, gathered-beyond, gathered-data}
+use Rattle.commands.proofs.Gathering.{before-case, gathered-beyond, gathered-data}
 use Rattle.commands.proofs.Tables.{Learnt, params-learnt}
 use Rattle.commands.proofs.Checks.{read-case, params-case, sectors-case, data-case, program-case}
 
@@ -169,21 +169,21 @@ tells-program : (a : ℕ) (d : List ℕ) (v : Bool) (w : Kept) → Tells (roomNe
 tells-program a d v w =
     let J = jobOf w a (length d) v in
     program-case (Tells (J .last - J .base) w) w (λ e _. tells-stop (J .last - J .base) w e) a d v
-    (λ p rs o e. let q : Programmed J d w rs o = before-case J d w rs o e in
+    (λ p rs o e. let q = before-case J d w rs o e in
     record {
       settled = q .kept;
       refusal = λ h. no-true (sym (q .answer) ∙ h);
-      beyond = gathered-beyond J d (w .room) rs (o .kept .room) p (q .gathered);
+      beyond = gathered-beyond J d (w .room) (o .kept .room) p (q .bytes);
     })
 
 pub program-leaves : ProgramLeaves
 program-leaves a d v w rs o e h =
     let J = jobOf w a (length d) v in
     program-case
-    (λ (s : Script Answer). play (tree 0 s) rs .1 ≡ some o → LeftByProgram J d (w .room) rs (o .kept .room)) w
+    (λ (s : Script Answer). play (tree 0 s) rs .1 ≡ some o → LeftByProgram J d (w .room) rs (play (tree 0 s) rs .0) o) w
     (λ x r y. let q = at-stop w x 0 rs o y in no-true (sym h ∙ ap refused (q .1) ∙ r)) a d v
-    (λ p y. let q : Programmed J d w rs o = before-case J d w rs o y in
-    record { gathered = q .gathered; holds = gathered-data J d (w .room) rs (o .kept .room) p (q .gathered) })
+    (λ p y. let q = before-case J d w rs o y in
+    record { room = q .room; broken = q .broken; holds = gathered-data J d (w .room) (o .kept .room) p (q .bytes) })
     e
 
 -- ---- reads, by their reply

@@ -96,7 +96,7 @@ within-fetch false off a n w = tt
 
 leads-fetch : (t : Bool) (off a n : ℕ) (w : Kept) → Leads (Roomed w) (when t (fetch off a n) w)
 unfolding after
-leads-fetch true off a n w = (tt, λ r h. (over off r (w .room), refl))
+leads-fetch true off a n w = (tt, λ r h. (_, refl))
 leads-fetch false off a n w = (w .room, refl)
 
 module _ (J : Job) (k : J .end ≤ J .last) where

@@ -1,19 +1,18 @@
 -- What a command leaves, whatever the replies: the statements.
 use mathlib.Core.Path.{_≡_}
 use mathlib.Core.Bool.{Bool, true, false, _||_}
-use mathlib.Core.Logic.{_⊎_}
-use mathlib.Core.List.{List, [], _∷_, _++_}
-use mathlib.Core.Option.{some}
-use Prim.Native.Nat.{ℕ, _+_, _-_, _<_}
+use mathlib.Core.List.{List, [], _∷_}
+use mathlib.Core.Option.{Option, some, none}
+use Prim.Native.Nat.{ℕ, zero, suc, _+_, _-_, _<_}
 use lib.Dec.{eqb}
 use lib.ListN.{length, take, drop}
 use Rattle.erase_plan.specs.Good.{Each}
 use Rattle.erase_plan.specs.Span.{spanStart, spanEnd}
 use Rattle.commands.specs.declared.Answer.{Answer}
-use Rattle.commands.specs.declared.Answer.the-variants.{Done}
+use Rattle.commands.specs.declared.Answer.the-variants.{Done, Access}
 use Rattle.commands.specs.Answers.{numberOf}
-use Rattle.commands.specs.Script.{Kept, roomed, over}
-use Rattle.commands.specs.Host.{Reply, failed, got, Outcome, tree, play}
+use Rattle.commands.specs.Script.{Sent, Kept, roomed, over}
+use Rattle.commands.specs.Host.{Reply, failed, got, full, Outcome, tree, play}
 use Rattle.commands.specs.Commands.{planOf, Job, jobOf}
 use Rattle.commands.specs.Calls.{Call, Read, LegacyRead, ReadParams, Erase, EraseSectors, Program, ProgramData, Reset, ReadJedecId, IsBusy, IsProtected, script}
 
@@ -71,33 +70,33 @@ ReadLeaves =
     × (play (tree 0 (script (LegacyRead a n) w)) rs .1 ≡ some o → LeftByRead n w rs o)
 
 -- ---- program
--- a full reply that is not empty; no bytes: none
-abbrev pub replied : List ℕ → List Reply
-replied [] = []
-replied (x ∷ bytes) = got (x ∷ bytes) ∷ []
+-- a read of n bytes, by the replies: its bytes and the replies after it; nothing if it was not answered in full. 0 bytes are not read
+unfoldable pub fetched : ℕ → List Reply → Option (List ℕ × List Reply)
+fetched zero rs = some ([], rs)
+fetched (suc n) [] = none
+fetched (suc n) (r ∷ rs) = elim (full (suc n) r) [ some bytes ↦ some (bytes, rs) | none ↦ none ]
 
--- none, or all n bytes of a read
-abbrev pub Whole : ℕ → List ℕ → Type 0
-Whole n bytes = (bytes ≡ []) ⊎ (length bytes ≡ n)
+-- a program's two reads, by the replies: whether both were answered in full; and the room, with the bytes before the data and those after
+-- them laid in as far as they came
+unfoldable pub gathered : Job → List Reply → List ℕ → Bool × List ℕ
+gathered J rs room =
+    elim (fetched (J .from - J .base) rs) [
+      | none ↦ (false, room)
+      | some r ↦ elim (fetched (J .last - J .end) (r .1)) [
+        | none ↦ (false, over 0 (r .0) room)
+        | some r′ ↦ (true, over (J .end - J .base) (r′ .0) (over 0 (r .0) room))
+      ]
+    ]
 
--- the room of a program of the data d: they are laid in; then the bytes before them as they were read, or none as yet; then those
--- after them. The replies begin with these
-pub record Gathered (J : Job) (d old : List ℕ) (rs : List Reply) (new : List ℕ) : Type 0 where
-  pub before : List ℕ
-  pub behind : List ℕ
-  pub rest : List Reply
-  pub wholeBefore : Whole (J .from - J .base) before
-  pub wholeBehind : Whole (J .last - J .end) behind
-  pub replies : rs ≡ replied before ++ (replied behind ++ rest)
-  pub room : new ≡ over (J .end - J .base) behind (over 0 before (over (J .from - J .base) d old))
-
--- after any answer that is no refusal the room is so, and holds the data
-pub record LeftByProgram (J : Job) (d old : List ℕ) (rs : List Reply) (new : List ℕ) : Type 0 where
-  pub gathered : Gathered J d old rs new
-  pub holds : take (length d) (drop (J .from - J .base) new) ≡ d
+-- after any answer that is no refusal: the room is that of the data laid in and of the two reads. Where one of them was not answered in full
+-- the answer is 8, and nothing but reads was sent. The data are in the room
+pub record LeftByProgram (J : Job) (d old : List ℕ) (rs : List Reply) (sent : List Sent) (o : Outcome) : Type 0 where
+  pub room : o .kept .room ≡ gathered J rs (over (J .from - J .base) d old) .1
+  pub broken : gathered J rs (over (J .from - J .base) d old) .0 ≡ false → (o .answer ≡ Access) × Each (λ (s : Sent). s .opcode ≡ 0x0B) sent
+  pub holds : take (length d) (drop (J .from - J .base) (o .kept .room)) ≡ d
 
 abbrev pub ProgramLeaves : Type 0
 ProgramLeaves =
     (a : ℕ) (d : List ℕ) (v : Bool) (w : Kept) (rs : List Reply) (o : Outcome)
     → play (tree 0 (script (Program a d v) w)) rs .1 ≡ some o → refused (o .answer) ≡ false
-    → LeftByProgram (jobOf w a (length d) v) d (w .room) rs (o .kept .room)
+    → LeftByProgram (jobOf w a (length d) v) d (w .room) rs (play (tree 0 (script (Program a d v) w)) rs .0) o
