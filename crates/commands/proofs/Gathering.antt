@@ -17,14 +17,15 @@ use Rattle.erase_plan.proofs.Lists.{no-true}
 use Rattle.commands.specs.declared.Answer.{Answer}
 use Rattle.commands.specs.declared.Answer.the-variants.{Done, ReadbackError, Access}
 use Rattle.commands.specs.Script.{Sent, Kept, Cmd, after, give, when, roomed, over, each}
-use Rattle.commands.specs.Host.{Reply, got, Outcome, Tree, ends, full, tally, tree, play}
+use Rattle.commands.specs.Host.{Reply, Outcome, tree, play}
 use Rattle.commands.specs.Transactions.{fastRead, eraseBlock, pageProgram, operation, parts, bytesOf, writePart}
 use Rattle.commands.specs.Commands.{planOf, eraseOne, mismatch, judge, fetch, verify, written, Job, writing, erasing, readAfter, readBefore}
 use Rattle.commands.specs.Leaves.{refused, Beyond, fetched, gathered}
-use Rattle.commands.proofs.Hosts.{Fails, full-got}
+use Rattle.commands.proofs.Hosts.{Fails}
 use Rattle.commands.proofs.Endings.{along, Ends, ends-then, ends-each, ends-operation, Sized, ends-host}
 use Rattle.commands.proofs.Rooms.{over-nil, over-here, over-rest, over-before, beyond-over, beyond-more}
 use Rattle.commands.proofs.Checks.{Placed}
+use Rattle.commands.proofs.Fetching.{Reads, fetch-case, gathered-none, gathered-before, gathered-both}
 
 -- ---- once the reads are done nothing is stored, and no answer is a refusal
 abbrev Stayed : Kept → Kept → Answer → Type 0
@@ -71,108 +72,11 @@ module _ (w : Kept) where
       (ends-each Sized (Stayed w) eraseOne w (λ e. stays-operation (eraseBlock (w .settings) e)) es)
       (λ u. stays-writing J (written (J .end - J .base) (J .last - J .base) (w .room)))
 
--- ---- one of the two reads
-abbrev Reads : List Sent → Type 0
-Reads sent = Each (λ (s : Sent). s .opcode ≡ 0x0B) sent
-
-fetched-none : (n : ℕ) (rs : List Reply) → n ≡ 0 → fetched n rs ≡ some ([], rs)
-unfolding fetched
-fetched-none zero rs e = refl
-fetched-none (suc n) rs e = absurd (omega arith)
-
-fetched-by : (n : ℕ) (r : Reply) (rs : List Reply) (q : Option (List ℕ)) → 0 < n → full n r ≡ q
-    → fetched n (r ∷ rs) ≡ elim q [ some bytes ↦ some (bytes, rs) | none ↦ none ]
-unfolding fetched
-fetched-by zero r rs q h e = absurd (omega arith)
-fetched-by (suc n) r rs q h e = ap (λ (x : Option (List ℕ)). elim x as (λ y. Option (List ℕ × List Reply)) [ some bytes ↦ some (bytes, rs) | none ↦ none ]) e
-
--- nothing stored
-roomed-nil : (off : ℕ) (w : Kept) → roomed w (over off [] (w .room)) ≡ w
-roomed-nil off w = ap (roomed w) (over-nil off (w .room))
-
--- the read was not answered in full: it was the last transaction
-record Missed (n : ℕ) (w : Kept) (rs : List Reply) (sent : List Sent) (o : Outcome) : Type 0 where
-  missing : fetched n rs ≡ none
-  fails : Fails w o
-  reads : Reads sent
-
--- it was, and what goes on with its bytes stored
-record Onward (off n : ℕ) (w : Kept) (k : Unit {0} → Cmd Answer) (rs : List Reply) (sent : List Sent) (o : Outcome) : Type 0 where
-  bytes : List ℕ
-  rest : List Reply
-  came : fetched n rs ≡ some (bytes, rest)
-  short : length bytes ≤ n
-  behind : ℕ
-  goes : play (tree behind (k tt (roomed w (over off bytes (w .room))))) rest .1 ≡ some o
-  reads : Reads (play (tree behind (k tt (roomed w (over off bytes (w .room))))) rest .0) → Reads sent
-
-fetch-case : (t : Bool) (off a n : ℕ) (w : Kept) (k : Unit {0} → Cmd Answer) → (t ≡ true → 0 < n) → (t ≡ false → n ≡ 0) → (m : ℕ) (rs : List Reply) (o : Outcome)
-    → play (tree m (after (when t (fetch off a n) w) k)) rs .1 ≡ some o
-    → Missed n w rs (play (tree m (after (when t (fetch off a n) w) k)) rs .0) o ⊎ Onward off n w k rs (play (tree m (after (when t (fetch off a n) w) k)) rs .0) o
-unfolding after tree play
-fetch-case true off a n w k p q m [] o e = let z : _≡_ {A = ℕ} 0 1 = cc in absurd (omega arith)
-fetch-case true off a n w k p q m (r ∷ rs) o e = go (full n r) refl e
-  where
-    s : Sent
-    s = fastRead (w .settings) a n
-
-    on : Option (List ℕ) → Tree
-    on x = elim x [
-      | some bytes ↦ tree (m + tally s) (k tt (roomed w (over off bytes (w .room))))
-      | none ↦ ends (record { answer = Access; polls = m + tally s; kept = w })
-    ]
-
-    go : (x : Option (List ℕ)) → full n r ≡ x → play (on x) rs .1 ≡ some o
-        → Missed n w (r ∷ rs) (s ∷ play (on x) rs .0) o ⊎ Onward off n w k (r ∷ rs) (s ∷ play (on x) rs .0) o
-    go (some bytes) t e =
-        let g : (r ≡ got bytes) × (length bytes ≡ n) = full-got n r bytes t in
-        inr (record {
-          bytes = bytes;
-          rest = rs;
-          came = fetched-by n r rs (some bytes) (p refl) t;
-          short = omega (arith, g .1);
-          behind = m + tally s;
-          goes = e;
-          reads = λ h. (refl, h);
-        })
-    go none t e =
-        let q : o ≡ record { answer = Access; polls = m + tally s; kept = w } = cc in
-        inl (record {
-          missing = fetched-by n r rs none (p refl) t;
-          fails = (ap (λ (x : Outcome). x .kept) q, ap (λ (x : Outcome). x .answer) q);
-          reads = (refl, tt);
-        })
-fetch-case false off a n w k p q m rs o e =
-    inr (record {
-      bytes = [];
-      rest = rs;
-      came = fetched-none n rs (q refl);
-      short = omega arith;
-      behind = m;
-      goes = along (λ (x : Kept). play (tree m (k tt x)) rs .1 ≡ some o) (roomed-nil off w) e;
-      reads = λ h. along (λ (x : Kept). Reads (play (tree m (k tt x)) rs .0)) (sym (roomed-nil off w)) h;
-    })
-
 failing : (o : Outcome) → o .answer ≡ Access → refused (o .answer) ≡ false
 unfolding refused
 failing o e = rw e
 
 -- ---- the two reads
-module _ (J : Job) (rs : List Reply) (room : List ℕ) where
-  gathered-none : fetched (J .from - J .base) rs ≡ none → gathered J rs room ≡ (false, room)
-  unfolding gathered
-  gathered-none e = rw (e, gathered) refl
-
-  gathered-before : (before : List ℕ) (rest : List Reply) → fetched (J .from - J .base) rs ≡ some (before, rest) → fetched (J .last - J .end) rest ≡ none
-      → gathered J rs room ≡ (false, over 0 before room)
-  unfolding gathered
-  gathered-before before rest e f = rw (e, gathered, f) refl
-
-  gathered-both : (before behind : List ℕ) (rest more : List Reply) → fetched (J .from - J .base) rs ≡ some (before, rest)
-      → fetched (J .last - J .end) rest ≡ some (behind, more) → gathered J rs room ≡ (true, over (J .end - J .base) behind (over 0 before room))
-  unfolding gathered
-  gathered-both before behind rest more e f = rw (e, gathered, f) refl
-
 -- what a program leaves, with the data laid in: the bytes that came
 pub record Gathered (J : Job) (laid : List ℕ) (new : List ℕ) : Type 0 where
   pub before : List ℕ
@@ -201,22 +105,23 @@ module _ (J : Job) (d : List ℕ) (w : Kept) where
       → (Reads (play (tree m (readAfter J (roomed laid (over 0 before (laid .room))))) rest .0) → Reads sent) → Programmed J d w rs sent o
   after-case before rest m rs sent o l c e f =
       ⊎-elim
-      (λ g. record {
-        answer = failing o (g .fails .1);
-        kept = along (λ (x : Kept). x ≡ roomed w (x .room)) (g .fails .0) refl;
+      (λ g. let f′ : Fails w′ o = g .fails o e in
+      record {
+        answer = failing o (f′ .1);
+        kept = along (λ (x : Kept). x ≡ roomed w (x .room)) (f′ .0) refl;
         bytes = record {
           before = before;
           behind = [];
           shortBefore = l;
           shortBehind = omega arith;
-          room = roomOf w′ o (g .fails .0) ∙ sym (over-nil (J .end - J .base) (w′ .room));
+          room = roomOf w′ o (f′ .0) ∙ sym (over-nil (J .end - J .base) (w′ .room));
         };
-        room = roomOf w′ o (g .fails .0) ∙ sym (ap (λ (x : Bool × List ℕ). x .1) (gathered-before J rs (laid .room) before rest c (g .missing)));
-        broken = λ _. (g .fails .1, f (g .reads));
+        room = roomOf w′ o (f′ .0) ∙ sym (ap (λ (x : Bool × List ℕ). x .1) (gathered-before J rs (laid .room) before rest c (g .missing)));
+        broken = λ _. (f′ .1, f (g .reads));
       })
       (λ g. let w″ : Kept = roomed w′ (over (J .end - J .base) (g .bytes) (w′ .room)) in
       let s : Stayed w″ (o .kept) (o .answer) =
-      ends-host (Stayed w″) (erasing J (planOf w″ (J .from) (J .end)) w″) (stays-erasing w″ J (planOf w″ (J .from) (J .end))) (g .behind) (g .rest) o (g .goes) in
+      ends-host (Stayed w″) (erasing J (planOf w″ (J .from) (J .end)) w″) (stays-erasing w″ J (planOf w″ (J .from) (J .end))) (g .behind) (g .rest) o (sym (g .goes) ∙ e) in
       record {
         answer = s .0;
         kept = along (λ (x : Kept). x ≡ roomed w (x .room)) (s .1) refl;
@@ -225,7 +130,7 @@ module _ (J : Job) (d : List ℕ) (w : Kept) where
         broken = λ h. no-true (sym h ∙ ap (λ (x : Bool × List ℕ). x .0) (gathered-both J rs (laid .room) before (g .bytes) rest (g .rest) c (g .came)));
       })
       (fetch-case (ltb (J .end) (J .last)) (J .end - J .base) (J .end) (J .last - J .end) w′ _ (λ t. omega (arith, ltb-true (J .end) (J .last) t))
-      (λ t. omega (arith, ltb-false (J .end) (J .last) t)) m rest o e)
+      (λ t. omega (arith, ltb-false (J .end) (J .last) t)) m rest)
     where
       w′ : Kept
       w′ = roomed laid (over 0 before (laid .room))
@@ -233,22 +138,23 @@ module _ (J : Job) (d : List ℕ) (w : Kept) where
   pub before-case : (rs : List Reply) (o : Outcome) → play (tree 0 (readBefore J laid)) rs .1 ≡ some o → Programmed J d w rs (play (tree 0 (readBefore J laid)) rs .0) o
   before-case rs o e =
       ⊎-elim
-      (λ f. record {
-        answer = failing o (f .fails .1);
-        kept = along (λ (x : Kept). x ≡ roomed w (x .room)) (f .fails .0) refl;
+      (λ f. let f′ : Fails laid o = f .fails o e in
+      record {
+        answer = failing o (f′ .1);
+        kept = along (λ (x : Kept). x ≡ roomed w (x .room)) (f′ .0) refl;
         bytes = record {
           before = [];
           behind = [];
           shortBefore = omega arith;
           shortBehind = omega arith;
-          room = roomOf laid o (f .fails .0) ∙ sym (over-nil 0 (laid .room)) ∙ sym (over-nil (J .end - J .base) (over 0 [] (laid .room)));
+          room = roomOf laid o (f′ .0) ∙ sym (over-nil 0 (laid .room)) ∙ sym (over-nil (J .end - J .base) (over 0 [] (laid .room)));
         };
-        room = roomOf laid o (f .fails .0) ∙ sym (ap (λ (x : Bool × List ℕ). x .1) (gathered-none J rs (laid .room) (f .missing)));
-        broken = λ _. (f .fails .1, f .reads);
+        room = roomOf laid o (f′ .0) ∙ sym (ap (λ (x : Bool × List ℕ). x .1) (gathered-none J rs (laid .room) (f .missing)));
+        broken = λ _. (f′ .1, f .reads);
       })
-      (λ g. after-case (g .bytes) (g .rest) (g .behind) rs _ o (g .short) (g .came) (g .goes) (g .reads))
+      (λ g. after-case (g .bytes) (g .rest) (g .behind) rs _ o (g .short) (g .came) (sym (g .goes) ∙ e) (g .reads))
       (fetch-case (ltb (J .base) (J .from)) 0 (J .base) (J .from - J .base) laid _ (λ t. omega (arith, ltb-true (J .base) (J .from) t))
-      (λ t. omega (arith, ltb-false (J .base) (J .from) t)) 0 rs o e)
+      (λ t. omega (arith, ltb-false (J .base) (J .from) t)) 0 rs)
 
 -- ---- the room so gathered
 module _ (J : Job) (d old new : List ℕ) (p : Placed J (length d) (length old)) (g : Gathered J (over (J .from - J .base) d old) new) where

@@ -1,5 +1,6 @@
 pub mod Examples
 pub mod Worked
+pub mod Delays
 pub mod Hosts
 pub mod Endings
 pub mod Sending
@@ -7,6 +8,7 @@ pub mod Parts
 pub mod Checks
 pub mod Within
 pub mod Rooms
+pub mod Fetching
 pub mod Gathering
 pub mod Tables
 pub mod Left

@@ -1,6 +1,7 @@
 -- The bounds of document 01.
-use mathlib.Core.Path.{_≡_, refl}
+use mathlib.Core.Path.{_≡_, refl, sym, ap}
 use mathlib.Core.Bool.{Bool, true, false, cond, _&&_, _||_, not}
+use mathlib.Core.Logic.{⊎-elim}
 use mathlib.Core.List.{List, [], _∷_}
 use mathlib.Core.Option.{Option, some, none}
 use Prim.Native.Nat.{ℕ, _+_, _-_, _*_, _≤_}
@@ -14,20 +15,24 @@ use Rattle.sfdp.specs.declared.ReadHeader.{ReadHeader}
 use Rattle.sfdp.specs.declared.ReadHeader.the-variants as OfHeader
 use Rattle.sfdp.specs.declared.ReadParams.{ReadParams as TableRead}
 use Rattle.sfdp.specs.declared.ReadParams.the-variants as OfTable
+use borrow.Author.Tests.{ltb-true, ltb-false}
 use Rattle.settings.specs.Limits.{pageOf}
 use Rattle.erase_plan.specs.declared.EraseEntry.{EraseEntry}
 use Rattle.erase_plan.specs.Span.{spanStart}
 use Rattle.commands.specs.declared.Answer.{Answer}
 use Rattle.commands.specs.declared.Answer.the-variants.{Done, NoResetInstruction}
 use Rattle.commands.specs.Script.{Sent, Kept, Script, done, stop, after, _>>=_, _>>_, give, when, ask, roomed, over, each}
+use Rattle.commands.specs.Host.{Reply, tree, play}
 use Rattle.commands.specs.Transactions.{plain, fastRead, readData, eraseBlock, pageProgram, operation, Part, parts, bytesOf, writePart}
 use Rattle.commands.specs.Commands.{planOf, eraseOne, read, legacyRead, withTable, withHeader, readParams, erase, eraseSectors, blank, mismatch, judge, fetch, verify, written, Job, writing, erasing, readAfter, readBefore, jobOf, program, writeData, programData, reset, idAt, firstId, readJedecId, isBusy, isProtected}
 use Rattle.commands.specs.Calls.{Read, LegacyRead, ReadParams, Erase, EraseSectors, Program, ProgramData, Reset, ReadJedecId, IsBusy, IsProtected, script}
-use Rattle.commands.specs.Bounds.{Any, Within, limit, entries, pagesOf, spanPages, most, Bounded, BoundedHost, ComesToEnd, BoundedErasing}
+use Rattle.commands.specs.Bounds.{Any, Within, limit, entries, pagesOf, spanPages, most, Bounded, BoundedHost, ComesToEnd, writtenPages, BoundedProgram}
+use Rattle.commands.specs.Leaves.{fetched, gathered}
 use Rattle.commands.proofs.Hosts.{all-sent, comes-to-end}
 use Rattle.commands.proofs.Endings.{along}
 use Rattle.commands.proofs.Sending.{Leads, Stays, stays-operation, stays-each, weaken, sends-after, sends-then, sends-any, sends-each, sends-operation}
 use Rattle.commands.proofs.Parts.{parts-pages, pages-le, page-some}
+use Rattle.commands.proofs.Fetching.{fetch-case, gathered-both}
 use Rattle.commands.proofs.Checks.{read-case, params-case, sectors-case, data-case, program-case}
 
 -- ---- operations
@@ -68,7 +73,9 @@ within-writing J n w =
     (λ u. sends-any Any 2 0 (when (J .verified) (verify (J .base) (take n (w .room))) w) (λ u. give Done)
     (within-verify (J .verified) (J .base) (take n (w .room)) w) (λ a w′. tt))
 
-pub within-erasing : BoundedErasing
+-- with the reads done: W is the pages of the bytes that are written, by the room as it is
+within-erasing : (J : Job) (es : List EraseEntry) (w : Kept)
+    → Within (2 + (length es + pagesOf w (J .base) (written (J .end - J .base) (J .last - J .base) (w .room))) * (2 + limit w)) (erasing J es w)
 within-erasing J es w =
     let n = written (J .end - J .base) (J .last - J .base) (w .room) in
     weaken Any (erasing J es w) (omega arith)
@@ -135,6 +142,46 @@ within-program a d v w =
     program-case (λ (s : Script Answer). Within (4 + n) s) w (λ e _. tt) a d v
     (λ p. weaken Any (readBefore J (roomed w (over (a - spanStart (planOf w a (a + length d))) d (w .room)))) (omega arith)
     (within-before J (p .reaches) (roomed w (over (a - spanStart (planOf w a (a + length d))) d (w .room)))))
+
+-- ---- a program by the replies to its reads
+module _ (J : Job) (d : List ℕ) (w : Kept) (rs : List Reply) where
+  abbrev laid : Kept
+  laid = roomed w (over (J .from - J .base) d (w .room))
+
+  abbrev closer : ℕ
+  closer = (length (planOf w (J .from) (J .end)) + writtenPages w J d rs) * (2 + limit w)
+
+  after-within : (before : List ℕ) (rest : List Reply) (m : ℕ) → fetched (J .from - J .base) rs ≡ some (before, rest)
+      → length (play (tree m (readAfter J (roomed laid (over 0 before (laid .room))))) rest .0) ≤ 3 + closer
+  after-within before rest m c =
+      ⊎-elim (λ g. omega (arith, g .one))
+      (λ g. let w″ : Kept = roomed w′ (over (J .end - J .base) (g .bytes) (w′ .room)) in
+      let es = planOf w (J .from) (J .end) in
+      let e : w″ .room ≡ gathered J rs (laid .room) .1 =
+      sym (ap (λ (x : Bool × List ℕ). x .1) (gathered-both J rs (laid .room) before (g .bytes) rest (g .rest) c (g .came))) in
+      let l = all-sent Any (erasing J es w″) _ (g .behind) (g .rest) (within-erasing J es w″) .1 in
+      let f : (length es + pagesOf w (J .base) (written (J .end - J .base) (J .last - J .base) (w″ .room))) * (2 + limit w) ≡ closer =
+      ap (λ (x : List ℕ). (length es + pagesOf w (J .base) (written (J .end - J .base) (J .last - J .base) x)) * (2 + limit w)) e in
+      omega (arith, g .one, l, f))
+      (fetch-case (ltb (J .end) (J .last)) (J .end - J .base) (J .end) (J .last - J .end) w′ (λ u x. erasing J (planOf x (J .from) (J .end)) x) (λ t. omega (arith, ltb-true (J .end) (J .last) t))
+      (λ t. omega (arith, ltb-false (J .end) (J .last) t)) m rest)
+    where
+      w′ : Kept
+      w′ = roomed laid (over 0 before (laid .room))
+
+  before-within : length (play (tree 0 (readBefore J laid)) rs .0) ≤ 4 + closer
+  before-within =
+      ⊎-elim (λ f. omega (arith, f .one))
+      (λ g. omega (arith, g .one, after-within (g .bytes) (g .rest) (g .behind) (g .came)))
+      (fetch-case (ltb (J .base) (J .from)) 0 (J .base) (J .from - J .base) laid (λ u. readAfter J) (λ t. omega (arith, ltb-true (J .base) (J .from) t))
+      (λ t. omega (arith, ltb-false (J .base) (J .from) t)) 0 rs)
+
+pub bounded-program : BoundedProgram
+unfolding tree play
+bounded-program a d v w rs =
+    let J = jobOf w a (length d) v in
+    program-case (λ (s : Script Answer). length (play (tree 0 s) rs .0) ≤ 4 + closer J d w rs) w (λ e _. omega arith) a d v
+    (λ p. before-within J d w rs)
 
 -- ---- the other commands
 within-table : (n : ℕ) (p : TableRead) (w : Kept) → Within n (withTable p w)

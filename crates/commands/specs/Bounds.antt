@@ -1,20 +1,20 @@
 -- How many transactions a command takes at most, whatever the replies; that it ends; and its polls: the statements.
 use mathlib.Core.Path.{_≡_}
-use mathlib.Core.Bool.{cond}
+use mathlib.Core.Bool.{Bool, cond}
 use mathlib.Core.List.{List}
 use mathlib.Core.Option.{some}
 use Prim.Native.Nat.{ℕ, _+_, _-_, _*_, _/_, _≤_}
 use lib.Dec.{eqb}
 use lib.ListN.{length}
 use Rattle.settings.specs.Limits.{pageOf}
-use Rattle.erase_plan.specs.declared.EraseEntry.{EraseEntry}
 use Rattle.erase_plan.specs.Span.{spanStart, spanEnd}
 use Rattle.commands.specs.declared.Answer.{Answer}
-use Rattle.commands.specs.Script.{Sent, Kept, Script}
+use Rattle.commands.specs.Script.{Sent, Kept, Script, over}
 use Rattle.commands.specs.Host.{Reply, Outcome, tree, play, pollsIn, Sends}
 use Rattle.commands.specs.Transactions.{parts}
-use Rattle.commands.specs.Commands.{planOf, Job, written, erasing}
+use Rattle.commands.specs.Commands.{planOf, written, Job, jobOf}
 use Rattle.commands.specs.Calls.{Call, Read, LegacyRead, ReadParams, Erase, EraseSectors, Program, ProgramData, Reset, ReadJedecId, IsBusy, IsProtected, script}
+use Rattle.commands.specs.Leaves.{gathered}
 
 -- any transaction at all
 abbrev pub Any : Sent → Type 0
@@ -72,11 +72,16 @@ BoundedHost = (c : Call) (w : Kept) (rs : List Reply) → length (play (tree 0 (
 abbrev pub ComesToEnd : Type 0
 ComesToEnd = (c : Call) (w : Kept) (rs : List Reply) → most c w ≤ length rs → (o : Outcome) × (play (tree 0 (script c w)) rs .1 ≡ some o)
 
--- a program whose reads are done: W is the pages of the bytes that are written, by the room as it then is
-abbrev pub BoundedErasing : Type 0
-BoundedErasing =
-    (J : Job) (es : List EraseEntry) (w : Kept)
-    → Within (2 + (length es + pagesOf w (J .base) (written (J .end - J .base) (J .last - J .base) (w .room))) * (2 + limit w)) (erasing J es w)
+-- a program closer, by the replies to its reads: W is the pages of the bytes that it writes, by what the room then holds
+abbrev pub writtenPages : Kept → Job → List ℕ → List Reply → ℕ
+writtenPages w J d rs =
+    pagesOf w (J .base) (written (J .end - J .base) (J .last - J .base) (gathered J rs (over (J .from - J .base) d (w .room)) .1))
+
+abbrev pub BoundedProgram : Type 0
+BoundedProgram =
+    (a : ℕ) (d : List ℕ) (v : Bool) (w : Kept) (rs : List Reply)
+    → length (play (tree 0 (script (Program a d v) w)) rs .0)
+    ≤ 4 + (entries w a (length d) + writtenPages w (jobOf w a (length d) v) d rs) * (2 + limit w)
 
 -- bytes are written in as many parts as they touch pages
 abbrev pub PartsArePages : Type 0
