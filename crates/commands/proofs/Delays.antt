@@ -20,7 +20,7 @@ use Rattle.erase_plan.specs.Span.{spanStart, spanEnd}
 use Rattle.plans.specs.Available.{ofParams, allZero, available}
 use Rattle.commands.specs.declared.Answer.{Answer}
 use Rattle.commands.specs.declared.Answer.the-variants.{Done}
-use Rattle.commands.specs.Script.{Sent, Kept, Cmd, after, _>>_, roomed, over, each}
+use Rattle.commands.specs.Script.{Sent, Cmd, after, _>>_, roomed, over, each}
 use Rattle.commands.specs.Host.{Reply, got, Outcome, full, tally, tree, play}
 use Rattle.commands.specs.Transactions.{pageDelay, byFlag, ready, polls, toPageEnd, partsIn, parts}
 use Rattle.commands.specs.Commands.{readParams, blank, mismatch, written, program, programData}

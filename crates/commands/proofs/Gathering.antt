@@ -1,10 +1,10 @@
 -- The room of a program: its data, and what it has read around them.
 use mathlib.Core.Path.{_≡_, refl, sym, ap, _∙_}
 use mathlib.Core.Bool.{Bool, true, false}
-use mathlib.Core.Logic.{_⊎_, inl, inr, ⊎-elim}
+use mathlib.Core.Logic.{⊎-elim}
 use mathlib.Core.List.{List, [], _∷_}
 use mathlib.Core.Option.{Option, some, none}
-use Prim.Native.Nat.{ℕ, zero, suc, _+_, _-_, _≤_, _<_}
+use Prim.Native.Nat.{ℕ, suc, _+_, _-_, _≤_}
 use native.Mathlib.Omega.{arith}
 use lib.Dec.{eqb, ltb}
 use lib.ListN.{length, take, drop}
@@ -16,10 +16,10 @@ use Rattle.erase_plan.specs.Good.{Each}
 use Rattle.erase_plan.proofs.Lists.{no-true}
 use Rattle.commands.specs.declared.Answer.{Answer}
 use Rattle.commands.specs.declared.Answer.the-variants.{Done, ReadbackError, Access}
-use Rattle.commands.specs.Script.{Sent, Kept, Cmd, after, give, when, roomed, over, each}
+use Rattle.commands.specs.Script.{Sent, Kept, after, give, when, roomed, over, each}
 use Rattle.commands.specs.Host.{Reply, Outcome, tree, play}
-use Rattle.commands.specs.Transactions.{fastRead, eraseBlock, pageProgram, operation, parts, bytesOf, writePart}
-use Rattle.commands.specs.Commands.{planOf, eraseOne, mismatch, judge, fetch, verify, written, Job, writing, erasing, readAfter, readBefore}
+use Rattle.commands.specs.Transactions.{eraseBlock, pageProgram, operation, parts, bytesOf, writePart}
+use Rattle.commands.specs.Commands.{planOf, eraseOne, mismatch, judge, verify, written, Job, writing, erasing, readAfter, readBefore}
 use Rattle.commands.specs.Leaves.{refused, Beyond, fetched, gathered}
 use Rattle.commands.proofs.Hosts.{Fails}
 use Rattle.commands.proofs.Endings.{along, Ends, ends-then, ends-each, ends-operation, Sized, ends-host}

@@ -13,7 +13,7 @@ use Rattle.erase_plan.specs.Good.{Each}
 use Rattle.commands.specs.declared.Answer.{Answer}
 use Rattle.commands.specs.declared.Answer.the-variants.{Access}
 use Rattle.commands.specs.Script.{Sent, Kept, Script, done, stop, send}
-use Rattle.commands.specs.Host.{Reply, failed, got, Outcome, Tree, ends, full, tally, tree, play, pollsIn, Sends}
+use Rattle.commands.specs.Host.{Reply, failed, got, Outcome, Tree, ends, full, tally, tree, play, pollsIn}
 use Rattle.commands.specs.Bounds.{PollsCounted}
 
 -- ---- the polls
@@ -37,6 +37,12 @@ pub polls-counted : PollsCounted
 polls-counted c rs o e = omega (arith, counts c 0 rs o e)
 
 -- ---- what is sent
+-- a script sends at most n transactions, each as Ok says, whatever the replies
+abbrev pub Sends : (Sent → Type 0) → {A : Type 0} → ℕ → Script A → Type 0
+Sends Ok n (done w a) = Unit {0}
+Sends Ok n (stop w e) = Unit {0}
+Sends Ok n (send w s f) = Ok s × ((1 ≤ n) × ((bytes : List ℕ) → Sends Ok (n - 1) (f bytes)))
+
 module _ (Ok : Sent → Type 0) where
   pub all-sent : (c : Script Answer) (n m : ℕ) (rs : List Reply) → Sends Ok n c → Each Ok (play (tree m c) rs .0) × (length (play (tree m c) rs .0) ≤ n)
   unfolding tree play

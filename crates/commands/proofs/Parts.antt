@@ -13,7 +13,7 @@ use Rattle.erase_plan.proofs.Lists.{lt-or-le}
 use Rattle.settings.specs.declared.Settings.{Settings}
 use Rattle.settings.specs.Limits.{pageOf}
 use Rattle.commands.specs.Transactions.{toPageEnd, partsIn, parts}
-use Rattle.commands.specs.Bounds.{pages, PartsArePages}
+use Rattle.commands.specs.Bounds.{pages}
 
 -- ---- the parts, one at a time
 pub in-more : (f page a off n : ℕ) → off < n
@@ -84,7 +84,7 @@ pub pages-some : (page a n : ℕ) → 1 ≤ n → pages page a n ≡ (a + n - 1)
 unfolding pages
 pages-some page a n h = rw (ne-eqb n 0 (λ e. omega arith))
 
-pub parts-pages : PartsArePages
+pub parts-pages : (page a n : ℕ) → 1 ≤ page → length (parts page a 0 n) ≡ pages page a n
 unfolding parts
 parts-pages page a n p =
     ⊎-elim

@@ -8,7 +8,7 @@ use lib.ListN.{length}
 use Rattle.dwords.specs.Dwords.{byteAt}
 use Rattle.commands.specs.declared.Answer.{Answer}
 use Rattle.commands.specs.Script.{Sent, Kept, Script, done, stop, send, Cmd, after, need, when, each}
-use Rattle.commands.specs.Host.{Sends}
+use Rattle.commands.proofs.Hosts.{Sends}
 use Rattle.commands.specs.Transactions.{writeEnable, byFlag, statusPoll, ready, polls, operation}
 use Rattle.commands.proofs.Endings.{along, Ends, ends-operation, ends-each}
 

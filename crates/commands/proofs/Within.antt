@@ -25,15 +25,22 @@ use Rattle.commands.specs.Script.{Sent, Kept, Script, done, stop, after,
 use Rattle.commands.specs.Host.{Reply, tree, play}
 use Rattle.commands.specs.Transactions.{plain, fastRead, readData, eraseBlock, pageProgram, operation, Part, parts, bytesOf, writePart}
 use Rattle.commands.specs.Commands.{planOf, eraseOne, read, legacyRead, withTable, withHeader, readParams, erase, eraseSectors, blank, mismatch, judge, fetch, verify, written, Job, writing, erasing, readAfter, readBefore, jobOf, program, writeData, programData, reset, idAt, firstId, readJedecId, isBusy, isProtected}
-use Rattle.commands.specs.Calls.{Read, LegacyRead, ReadParams, Erase, EraseSectors, Program, ProgramData, Reset, ReadJedecId, IsBusy, IsProtected, script}
-use Rattle.commands.specs.Bounds.{Any, Within, limit, entries, pagesOf, spanPages, most, Bounded, BoundedHost, ComesToEnd, writtenPages, BoundedProgram}
+use Rattle.commands.specs.Calls.{Call, Read, LegacyRead, ReadParams, Erase, EraseSectors, Program, ProgramData, Reset, ReadJedecId, IsBusy, IsProtected, script}
+use Rattle.commands.specs.Bounds.{limit, entries, pagesOf, spanPages, most, Bounded, ComesToEnd, writtenPages, BoundedProgram}
 use Rattle.commands.specs.Leaves.{fetched, gathered}
-use Rattle.commands.proofs.Hosts.{all-sent, comes-to-end}
+use Rattle.commands.proofs.Hosts.{Sends, all-sent, comes-to-end}
 use Rattle.commands.proofs.Endings.{along}
 use Rattle.commands.proofs.Sending.{Leads, Stays, stays-operation, stays-each, weaken, sends-after, sends-then, sends-any, sends-each, sends-operation}
 use Rattle.commands.proofs.Parts.{parts-pages, pages-le, page-some}
 use Rattle.commands.proofs.Fetching.{fetch-case, gathered-both}
 use Rattle.commands.proofs.Checks.{read-case, params-case, sectors-case, data-case, program-case}
+
+-- ---- at most n transactions, whatever the replies
+abbrev pub Any : Sent → Type 0
+Any s = Unit {0}
+
+abbrev pub Within : {A : Type 0} → ℕ → Script A → Type 0
+Within n c = Sends Any n c
 
 -- ---- operations
 within-operation : (s : Sent) (w : Kept) → Within (2 + limit w) (operation s w)
@@ -262,22 +269,22 @@ unfolding after isProtected
 within-protected w = (tt, (omega arith, λ r. tt))
 
 -- ---- all of them
-pub bounded : Bounded
+pub within : (c : Call) (w : Kept) → Within (most c w) (script c w)
 unfolding read legacyRead
-bounded (Read a n) w = read-case (λ (s : Script Answer). Within 1 s) w (λ e _. tt) fastRead a n (λ _. (tt, (omega arith, λ r. tt)))
-bounded (LegacyRead a n) w = read-case (λ (s : Script Answer). Within 1 s) w (λ e _. tt) readData a n (λ _. (tt, (omega arith, λ r. tt)))
-bounded ReadParams w = within-params w
-bounded Erase w = within-erase w
-bounded (EraseSectors a n) w = within-sectors a n w
-bounded (Program a d v) w = within-program a d v w
-bounded (ProgramData a d) w = within-data a d w
-bounded Reset w = within-reset w
-bounded ReadJedecId w = within-id w
-bounded IsBusy w = within-busy w
-bounded IsProtected w = within-protected w
+within (Read a n) w = read-case (λ (s : Script Answer). Within 1 s) w (λ e _. tt) fastRead a n (λ _. (tt, (omega arith, λ r. tt)))
+within (LegacyRead a n) w = read-case (λ (s : Script Answer). Within 1 s) w (λ e _. tt) readData a n (λ _. (tt, (omega arith, λ r. tt)))
+within ReadParams w = within-params w
+within Erase w = within-erase w
+within (EraseSectors a n) w = within-sectors a n w
+within (Program a d v) w = within-program a d v w
+within (ProgramData a d) w = within-data a d w
+within Reset w = within-reset w
+within ReadJedecId w = within-id w
+within IsBusy w = within-busy w
+within IsProtected w = within-protected w
 
-pub bounded-host : BoundedHost
-bounded-host c w rs = all-sent Any (script c w) (most c w) 0 rs (bounded c w) .1
+pub bounded-host : Bounded
+bounded-host c w rs = all-sent Any (script c w) (most c w) 0 rs (within c w) .1
 
 pub ends-always : ComesToEnd
-ends-always c w rs h = comes-to-end Any (script c w) (most c w) 0 rs (bounded c w) h
+ends-always c w rs h = comes-to-end Any (script c w) (most c w) 0 rs (within c w) h

@@ -9,20 +9,11 @@ use lib.ListN.{length}
 use Rattle.settings.specs.Limits.{pageOf}
 use Rattle.erase_plan.specs.Span.{spanStart, spanEnd}
 use Rattle.commands.specs.declared.Answer.{Answer}
-use Rattle.commands.specs.Script.{Sent, Kept, Script, over}
-use Rattle.commands.specs.Host.{Reply, Outcome, tree, play, pollsIn, Sends}
-use Rattle.commands.specs.Transactions.{parts}
+use Rattle.commands.specs.Script.{Kept, Script, over}
+use Rattle.commands.specs.Host.{Reply, Outcome, tree, play, pollsIn}
 use Rattle.commands.specs.Commands.{planOf, written, Job, jobOf}
 use Rattle.commands.specs.Calls.{Call, Read, LegacyRead, ReadParams, Erase, EraseSectors, Program, ProgramData, Reset, ReadJedecId, IsBusy, IsProtected, script}
 use Rattle.commands.specs.Leaves.{gathered}
-
--- any transaction at all
-abbrev pub Any : Sent → Type 0
-Any s = Unit {0}
-
--- at most n transactions, whatever the replies
-abbrev pub Within : {A : Type 0} → ℕ → Script A → Type 0
-Within n c = Sends Any n c
 
 -- ---- the numbers of document 01
 abbrev pub limit : Kept → ℕ
@@ -60,13 +51,9 @@ most IsBusy w = 1
 most IsProtected w = 1
 
 -- ---- the statements
--- every command keeps to it
+-- a host sends no more, whatever the replies
 abbrev pub Bounded : Type 0
-Bounded = (c : Call) (w : Kept) → Within (most c w) (script c w)
-
--- so does what a host sends
-abbrev pub BoundedHost : Type 0
-BoundedHost = (c : Call) (w : Kept) (rs : List Reply) → length (play (tree 0 (script c w)) rs .0) ≤ most c w
+Bounded = (c : Call) (w : Kept) (rs : List Reply) → length (play (tree 0 (script c w)) rs .0) ≤ most c w
 
 -- a host with as many replies comes to an outcome
 abbrev pub ComesToEnd : Type 0
@@ -82,10 +69,6 @@ BoundedProgram =
     (a : ℕ) (d : List ℕ) (v : Bool) (w : Kept) (rs : List Reply)
     → length (play (tree 0 (script (Program a d v) w)) rs .0)
     ≤ 4 + (entries w a (length d) + writtenPages w (jobOf w a (length d) v) d rs) * (2 + limit w)
-
--- bytes are written in as many parts as they touch pages
-abbrev pub PartsArePages : Type 0
-PartsArePages = (page a n : ℕ) → 1 ≤ page → length (parts page a 0 n) ≡ pages page a n
 
 -- every script: the answer's polls are those of the transaction list
 abbrev pub PollsCounted : Type 0

@@ -74,23 +74,16 @@ legacyRead a n = readBy readData a n
 -- ---- read_params: 11, three 5A reads, each full reply copied to the start of the room; 12, 3, 4
 -- n bytes of the SFDP area
 abbrev pub fetchSFDP : ℕ → ℕ → Cmd (List ℕ)
-fetchSFDP a n = do
-  r ← ask (readSFDP a n)
-  store 0 r
-  give r
+fetchSFDP a n = ask (readSFDP a n) >>= λ r. store 0 r >> give r
 
 abbrev pub withTable : ReadParams → Cmd Answer
 withTable OfTable.InvalidSFDPParams w = stop w InvalidSFDPParams
-withTable (OfTable.Params p) w = (do
-  adopt (updated (w .settings) p) p
-  give Done) w
+withTable (OfTable.Params p) w = (adopt (updated (w .settings) p) p >> give Done) w
 
 abbrev pub withHeader : ReadHeader → Cmd Answer
 withHeader OfHeader.NoSFDP w = stop w NoSFDP
 withHeader OfHeader.InvalidSFDPHeader w = stop w InvalidSFDPHeader
-withHeader (OfHeader.Header h) w = (do
-  r ← fetchSFDP (h .ptp) (4 * h .plen)
-  withTable (readTable (h .minor) (h .plen) r)) w
+withHeader (OfHeader.Header h) w = (fetchSFDP (h .ptp) (4 * h .plen) >>= λ r. withTable (readTable (h .minor) (h .plen) r)) w
 
 unfoldable pub readParams : Cmd Answer
 readParams = do
@@ -101,9 +94,7 @@ readParams = do
 
 -- ---- erase: 06, C7, polls
 unfoldable pub erase : Cmd Answer
-erase = do
-  operation (plain 0xC7 0)
-  give Done
+erase = operation (plain 0xC7 0) >> give Done
 
 -- ---- erase_sectors: 5, 7, 5 for the span; then the plan
 abbrev pub spanFits : SpanCheck → Cmd (Unit {0})
@@ -134,21 +125,15 @@ mismatch a (x ∷ l) (y ∷ r) = elim (eqb x y) [ true ↦ mismatch (suc a) l r 
 -- one 05 read, then answer 1
 abbrev pub judge : Option Answer → Cmd (Unit {0})
 judge none w = done w tt
-judge (some e) w = (do
-  ask status1
-  fail e) w
+judge (some e) w = (ask status1 >> fail e) w
 
 -- n bytes read at a into the room
 abbrev pub fetch : ℕ → ℕ → ℕ → Cmd (Unit {0})
-fetch off a n w = (do
-  r ← ask (fastRead (w .settings) a n)
-  store off r) w
+fetch off a n w = (ask (fastRead (w .settings) a n) >>= λ r. store off r) w
 
 -- one 0B read of the bytes l that were written at a
 abbrev pub verify : ℕ → List ℕ → Cmd (Unit {0})
-verify a l w = (do
-  r ← ask (fastRead (w .settings) a (length l))
-  judge (mismatch a l r)) w
+verify a l w = (ask (fastRead (w .settings) a (length l)) >>= λ r. judge (mismatch a l r)) w
 
 -- the bytes after the data are not rewritten if they are all FF: how many bytes of the room are written, where the data end at
 -- byte dataEnd and the span at byte spanLen
@@ -201,9 +186,7 @@ program a d v = do
 
 -- ---- program_data: without data Done; 5, 11; the data copied in; the page parts
 abbrev pub writeData : ℕ → ℕ → ℕ → Cmd Answer
-writeData a n off w = (do
-  each (writePart a (w .room)) (parts (pageOf (w .settings)) a off n)
-  give Done) w
+writeData a n off w = (each (writePart a (w .room)) (parts (pageOf (w .settings)) a off n) >> give Done) w
 
 unfoldable pub programData : ℕ → List ℕ → Cmd Answer
 programData a [] = give Done
@@ -217,15 +200,8 @@ programData a (x ∷ d) = do
 unfoldable pub reset : Cmd Answer
 reset w =
     cond (not (w .known && w .params .jesd216a) || w .params .«reset_inst_66_99»)
-    ((do
-      ask (plain 0x66 0)
-      ask (plain 0x99 0)
-      give Done) w)
-    (cond (w .params .«reset_inst_f0»)
-    ((do
-      ask (plain 0xF0 0)
-      give Done) w)
-    (stop w NoResetInstruction))
+    ((ask (plain 0x66 0) >> ask (plain 0x99 0) >> give Done) w)
+    (cond (w .params .«reset_inst_f0») ((ask (plain 0xF0 0) >> give Done) w) (stop w NoResetInstruction))
 
 -- ---- read_jedec_id: 9F with reply 3; if byte 0 is 7F, 9F again with reply 16, and the first of bytes 1 to 13 that is not 7F
 abbrev pub idAt : ℕ → List ℕ → Answer
@@ -239,17 +215,11 @@ firstId (suc more) n r = cond (eqb (byteAt r n) 0x7F) (firstId more (n + 1) r) (
 unfoldable pub readJedecId : Cmd Answer
 readJedecId = do
   r ← ask (plain 0x9F 3)
-  λ w. cond (eqb (byteAt r 0) 0x7F) ((do
-    r′ ← ask (plain 0x9F 16)
-    give (firstId 13 1 r′)) w) (done w (idAt 0 r))
+  λ w. cond (eqb (byteAt r 0) 0x7F) ((ask (plain 0x9F 16) >>= λ r′. give (firstId 13 1 r′)) w) (done w (idAt 0 r))
 
 -- ---- is_busy: one poll. is_protected: one 05 read, any of bits 4:2
 unfoldable pub isBusy : Cmd Answer
-isBusy w = (do
-  r ← ask (statusPoll w)
-  give (DoneBool (not (ready (byFlag w) (byteAt r 0))))) w
+isBusy w = (ask (statusPoll w) >>= λ r. give (DoneBool (not (ready (byFlag w) (byteAt r 0))))) w
 
 unfoldable pub isProtected : Cmd Answer
-isProtected = do
-  r ← ask status1
-  give (DoneBool (not (eqb (bits (byteAt r 0) 4 2) 0)))
+isProtected = ask status1 >>= λ r. give (DoneBool (not (eqb (bits (byteAt r 0) 4 2) 0)))

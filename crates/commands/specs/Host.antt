@@ -1,8 +1,8 @@
 -- What a host sees of a script: every reply it may give, failures too, and at the end the outcome with its polls.
-use mathlib.Core.Bool.{Bool, true, false, cond}
+use mathlib.Core.Bool.{cond}
 use mathlib.Core.List.{List, [], _∷_}
 use mathlib.Core.Option.{Option, some, none}
-use Prim.Native.Nat.{ℕ, _+_, _-_, _≤_}
+use Prim.Native.Nat.{ℕ, _+_}
 use lib.Dec.{eqb}
 use lib.ListN.{length}
 use Rattle.commands.specs.declared.Answer.{Answer}
@@ -52,9 +52,3 @@ play (asks s f) (r ∷ rs) = (s ∷ play (f r) rs .0, play (f r) rs .1)
 unfoldable pub pollsIn : List Sent → ℕ
 pollsIn [] = 0
 pollsIn (s ∷ ss) = tally s + pollsIn ss
-
--- a script sends at most n transactions, each as Ok says, whatever the replies
-abbrev pub Sends : (Sent → Type 0) → {A : Type 0} → ℕ → Script A → Type 0
-Sends Ok n (done w a) = Unit {0}
-Sends Ok n (stop w e) = Unit {0}
-Sends Ok n (send w s f) = Ok s × ((1 ≤ n) × ((bytes : List ℕ) → Sends Ok (n - 1) (f bytes)))

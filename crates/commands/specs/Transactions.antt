@@ -11,13 +11,17 @@ use Rattle.erase_plan.specs.declared.EraseEntry.{EraseEntry}
 use Rattle.commands.specs.declared.Answer.the-variants.{Busy}
 use Rattle.commands.specs.Script.{Sent, Kept, Script, done, stop, send, Cmd, _>>=_, _>>_, ask, after}
 
+-- no poll: command byte, address in so many bytes, dummy or not, payload, reply length, delay
+abbrev pub issue : ℕ → ℕ → ℕ → Bool → List ℕ → ℕ → ℕ → Sent
+issue op n a dummy l reply µs = record { opcode = op; addressed = n; address = a; dummy = dummy; payload = l; reply = reply; poll = false; delay = µs }
+
 -- a bare command byte that asks for n bytes
 abbrev pub plain : ℕ → ℕ → Sent
-plain op n = record { opcode = op; addressed = 0; address = 0; dummy = false; payload = []; reply = n; poll = false; delay = 0 }
+plain op n = issue op 0 0 false [] n 0
 
 -- a command with an address of so many bytes, and a dummy or none
 abbrev pub at : ℕ → ℕ → ℕ → Bool → ℕ → Sent
-at op bytes a dummy n = record { opcode = op; addressed = bytes; address = a; dummy = dummy; payload = []; reply = n; poll = false; delay = 0 }
+at op bytes a dummy n = issue op bytes a dummy [] n 0
 
 -- n bytes from a on: 0B, with a dummy; 03; 5A, with 3 address bytes and a dummy
 abbrev pub fastRead : Settings → ℕ → ℕ → Sent
@@ -37,16 +41,7 @@ status1 = plain 0x05 1
 
 -- an entry's opcode and address; then half the typical time, if that is known
 abbrev pub eraseBlock : Settings → EraseEntry → Sent
-eraseBlock s e = record {
-  opcode = e .opcode;
-  addressed = s .«address_bytes»;
-  address = e .base;
-  dummy = false;
-  payload = [];
-  reply = 0;
-  poll = false;
-  delay = cond (eqb (e .timed) 1) (e .time / 2) 0;
-}
+eraseBlock s e = issue (e .opcode) (s .«address_bytes») (e .base) false [] 0 (cond (eqb (e .timed) 1) (e .time / 2) 0)
 
 -- half the page time, if that time is known and above 1,000 µs
 unfoldable pub pageDelay : Kept → ℕ
@@ -54,16 +49,7 @@ pageDelay w =
     cond (w .known && w .params .jesd216a && ltb 1000 (w .params .timing .«page_prog_time_typ»)) (w .params .timing .«page_prog_time_typ» / 2) 0
 
 abbrev pub pageProgram : Kept → ℕ → List ℕ → Sent
-pageProgram w a bytes = record {
-  opcode = 0x02;
-  addressed = w .settings .«address_bytes»;
-  address = a;
-  dummy = false;
-  payload = bytes;
-  reply = 0;
-  poll = false;
-  delay = pageDelay w;
-}
+pageProgram w a bytes = issue 0x02 (w .settings .«address_bytes») a false bytes 0 (pageDelay w)
 
 -- ---- a poll is 70, ready when bit 7 is 1, if flag polling is given; else 05, ready when bit 0 is 0
 unfoldable pub byFlag : Kept → Bool

@@ -7,75 +7,38 @@ use Rattle.settings.specs.declared.Settings.{Settings}
 use Rattle.settings.specs.declared.SetAnswer.{SetAnswer}
 use Rattle.settings.specs.declared.SetAnswer.the-variants.{Set, BadSetting}
 
+-- address bytes, whether there is a capacity and which, page size, erase size and opcode, poll limit
+abbrev pub settingsOf : ℕ → Bool → (capacity page size opcode polls : ℕ) → Settings
+settingsOf bytes given capacity page size opcode polls = record {
+  «address_bytes» = bytes;
+  «capacity_set» = given;
+  capacity = capacity;
+  «page_size» = page;
+  «erase_size» = size;
+  «erase_opcode» = opcode;
+  «poll_limit» = polls;
+}
+
 -- 3 address bytes, erase opcode 20, poll limit 65,535; no capacity, no page size, no erase size
 abbrev pub defaults : Settings
-defaults = record {
-  «address_bytes» = 3;
-  «capacity_set» = false;
-  capacity = 0;
-  «page_size» = 0;
-  «erase_size» = 0;
-  «erase_opcode» = 0x20;
-  «poll_limit» = 65535;
-}
+defaults = settingsOf 3 false 0 0 0 0x20 65535
 
 -- ---- the settings with one of them changed, and no other
 abbrev pub withAddressBytes : ℕ → Settings → Settings
-withAddressBytes n s = record {
-  «address_bytes» = n;
-  «capacity_set» = s .«capacity_set»;
-  capacity = s .capacity;
-  «page_size» = s .«page_size»;
-  «erase_size» = s .«erase_size»;
-  «erase_opcode» = s .«erase_opcode»;
-  «poll_limit» = s .«poll_limit»;
-}
+withAddressBytes n s = settingsOf n (s .«capacity_set») (s .capacity) (s .«page_size») (s .«erase_size») (s .«erase_opcode») (s .«poll_limit»)
 
--- whether there is a capacity, and which
 abbrev pub withCapacity : Bool → ℕ → Settings → Settings
-withCapacity given n s = record {
-  «address_bytes» = s .«address_bytes»;
-  «capacity_set» = given;
-  capacity = n;
-  «page_size» = s .«page_size»;
-  «erase_size» = s .«erase_size»;
-  «erase_opcode» = s .«erase_opcode»;
-  «poll_limit» = s .«poll_limit»;
-}
+withCapacity given n s = settingsOf (s .«address_bytes») given n (s .«page_size») (s .«erase_size») (s .«erase_opcode») (s .«poll_limit»)
 
 abbrev pub withPageSize : ℕ → Settings → Settings
-withPageSize n s = record {
-  «address_bytes» = s .«address_bytes»;
-  «capacity_set» = s .«capacity_set»;
-  capacity = s .capacity;
-  «page_size» = n;
-  «erase_size» = s .«erase_size»;
-  «erase_opcode» = s .«erase_opcode»;
-  «poll_limit» = s .«poll_limit»;
-}
+withPageSize n s = settingsOf (s .«address_bytes») (s .«capacity_set») (s .capacity) n (s .«erase_size») (s .«erase_opcode») (s .«poll_limit»)
 
 -- the erase size and the opcode
 abbrev pub withErase : ℕ → ℕ → Settings → Settings
-withErase size opcode s = record {
-  «address_bytes» = s .«address_bytes»;
-  «capacity_set» = s .«capacity_set»;
-  capacity = s .capacity;
-  «page_size» = s .«page_size»;
-  «erase_size» = size;
-  «erase_opcode» = opcode;
-  «poll_limit» = s .«poll_limit»;
-}
+withErase size opcode s = settingsOf (s .«address_bytes») (s .«capacity_set») (s .capacity) (s .«page_size») size opcode (s .«poll_limit»)
 
 abbrev pub withPollLimit : ℕ → Settings → Settings
-withPollLimit n s = record {
-  «address_bytes» = s .«address_bytes»;
-  «capacity_set» = s .«capacity_set»;
-  capacity = s .capacity;
-  «page_size» = s .«page_size»;
-  «erase_size» = s .«erase_size»;
-  «erase_opcode» = s .«erase_opcode»;
-  «poll_limit» = n;
-}
+withPollLimit n s = settingsOf (s .«address_bytes») (s .«capacity_set») (s .capacity) (s .«page_size») (s .«erase_size») (s .«erase_opcode») n
 
 -- ---- the limits
 -- from low to high, both included
@@ -108,11 +71,6 @@ clearCapacity s = withCapacity false 0 s
 -- any byte
 abbrev pub setEraseOpcode : Settings → ℕ → Settings
 setEraseOpcode s n = withErase (s .«erase_size») n s
-
--- the answer numbers
-abbrev pub setNumber : SetAnswer → ℕ
-setNumber (Set s) = 0
-setNumber BadSetting = 10
 
 -- the page size, 256 if unset
 unfoldable pub pageOf : Settings → ℕ

@@ -27,8 +27,3 @@ lastAddress address length = (address + length + (2 ^ 32 - 1)) % 2 ^ 32
 -- otherwise answer 5, which reports the last address
 unfoldable pub checkAddressLength : Settings → ℕ → ℕ → RangeCheck
 checkAddressLength s address length = cond (acceptedRange s address length) Fits (InvalidAddress (record { last = lastAddress address length }))
-
--- the answer numbers
-abbrev pub rangeNumber : RangeCheck → ℕ
-rangeNumber Fits = 0
-rangeNumber (InvalidAddress report) = 5

@@ -9,6 +9,7 @@ use Rattle.sfdp.specs.declared.SFDPAddressBytes.the-variants as Address
 use Rattle.sfdp.specs.declared.SectorErase.{SectorErase}
 use Rattle.sfdp.specs.declared.SectorErase.the-variants.{Smallest, Nothing}
 use Rattle.settings.specs.declared.Settings.{Settings}
+use Rattle.settings.specs.Limits.{settingsOf}
 
 -- all but four set 3
 abbrev pub addressBytesOf : SFDPAddressBytes → ℕ
@@ -43,12 +44,6 @@ opcodeOr old (Smallest size opcode) = opcode
 opcodeOr old Nothing = old
 
 unfoldable pub updated : Settings → FlashParams → Settings
-updated s p = record {
-  «address_bytes» = addressBytesOf (p .«address_bytes»);
-  «capacity_set» = true;
-  capacity = capacity p;
-  «page_size» = cond (p .jesd216a) (p .«page_size») (s .«page_size»);
-  «erase_size» = sizeOr (s .«erase_size») (chosenErase p);
-  «erase_opcode» = opcodeOr (s .«erase_opcode») (chosenErase p);
-  «poll_limit» = s .«poll_limit»;
-}
+updated s p =
+    settingsOf (addressBytesOf (p .«address_bytes»)) true (capacity p) (cond (p .jesd216a) (p .«page_size») (s .«page_size»))
+    (sizeOr (s .«erase_size») (chosenErase p)) (opcodeOr (s .«erase_opcode») (chosenErase p)) (s .«poll_limit»)

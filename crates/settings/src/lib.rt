@@ -3,9 +3,9 @@
 ghost use mathlib.Core.Path.{_≡_};
 ghost use Prim.Native.Nat.{_+_};
 ghost use lib.Dec.{leb};
-ghost use Rattle.settings.specs.Limits.{defaults, withAddressBytes, withCapacity, withPageSize, withErase, withPollLimit, within, setAddressBytes, setPageSize, setEraseSize, setPollLimit, setCapacity, clearCapacity, setEraseOpcode, setNumber, pageOf};
+ghost use Rattle.settings.specs.Limits.{defaults, withAddressBytes, withCapacity, withPageSize, withErase, withPollLimit, within, setAddressBytes, setPageSize, setEraseSize, setPollLimit, setCapacity, clearCapacity, setEraseOpcode, pageOf};
 ghost use Rattle.settings.specs.Updated.{addressBytesOf, legacyErase, chosenErase, sizeOr, opcodeOr, updated};
-ghost use Rattle.settings.specs.Ranges.{reach, capacityAllows, acceptedRange, lastAddress, checkAddressLength, rangeNumber};
+ghost use Rattle.settings.specs.Ranges.{reach, capacityAllows, acceptedRange, lastAddress, checkAddressLength};
 use sfdp::FlashParams;
 use sfdp::SFDPAddressBytes;
 use sfdp::SectorErase;
@@ -309,28 +309,4 @@ fn last_address(address: u32, length: u64) -> u32
 {
     let low = (length % 0x1_0000_0000) as u32;
     std::num::wrapping_sub_u32(std::num::wrapping_add_u32(address, low), 1)
-}
-
-impl SetAnswer {
-    // Document 01's answer number.
-    pub fn number(self) -> u8
-        ensures { λ r. ⌜ r ≡ setNumber self ⌝ }
-    {
-        match self {
-            SetAnswer::Set(_) => 0,
-            SetAnswer::BadSetting => 10,
-        }
-    }
-}
-
-impl RangeCheck {
-    // Document 01's answer number; 0 where the range is accepted.
-    pub fn number(self) -> u8
-        ensures { λ r. ⌜ r ≡ rangeNumber self ⌝ }
-    {
-        match self {
-            RangeCheck::Fits => 0,
-            RangeCheck::InvalidAddress(_) => 5,
-        }
-    }
 }
