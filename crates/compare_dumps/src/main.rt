@@ -1,15 +1,12 @@
 // Lists every differing run of two card dumps. The arguments are the names of the two files, which are read in parts of at most
 // 4,096 bytes. The last line begins with equal, differ or error.
-mod parts;
 mod show;
 
+ghost use Rattle.io.specs.Counts.{Counts};
 use dump_runs::Comparison;
 use dump_runs::Next;
-use parts::Part;
-use parts::next_part;
-use show::Totals;
-use show::number;
-use show::text;
+use files::Part;
+use show::Listing;
 
 // How it stands, or why it broke off.
 pub enum Stand {
@@ -26,41 +23,60 @@ pub enum Stand {
 
 pub struct State {
     pub comparison: Comparison,
-    pub totals: Totals,
+    pub listing: Listing,
     pub stand: Stand,
 }
 
+// Two open files.
+pub struct Pair {
+    pub first: i32,
+    pub second: i32,
+}
+
+// The next part of a file; nothing once it has ended.
+fn next_part(fd: i32, name: &[u8], ended: bool, buf: &mut [u8]) -> Part
+    ensures { λ r. ⌜ Counts (r .len) (now (buf .exit)) ⌝ }
+{
+    if ended {
+        return Part {
+            len: 0,
+            failed: false,
+        };
+    }
+    files::fill(fd, name, buf)
+}
+
 // Lists the runs that end in two parts; after is how it stands then.
-fn list(c: Comparison, t: Totals, a: &[u8], b: &[u8], after: Stand) -> State {
+fn list(c: Comparison, l: Listing, space: &mut [u8], a: &[u8], b: &[u8], after: Stand) -> State {
     let mut comparison = c;
-    let mut totals = t;
+    let mut listing = l;
     let mut at: usize = 0;
     loop {
         let found = comparison.next_run(a, b, at);
         match found {
             Next::Found { run, next, then } => {
-                totals = totals.with_common(run);
+                listing = listing.common(space, run);
                 comparison = then;
                 at = next;
             }
             Next::More(then) => {
                 return State {
                     comparison: then,
-                    totals,
+                    listing,
                     stand: after,
                 };
             }
             Next::PastEnd => {
                 return State {
                     comparison,
-                    totals,
+                    listing,
                     stand: Stand::PastEnd,
                 };
             }
             Next::TooLong => {
                 return State {
                     comparison,
-                    totals,
+                    listing,
                     stand: Stand::TooLong,
                 };
             }
@@ -88,7 +104,7 @@ fn stand_after(p: Part, q: Part) -> Stand {
 }
 
 // The next parts of both files.
-fn turn(first: i32, second: i32, s: State) -> State {
+fn turn(pair: Pair, one: &[u8], two: &[u8], space: &mut [u8], s: State) -> State {
     let stand = s.stand;
     match stand {
         Stand::Going {
@@ -97,31 +113,32 @@ fn turn(first: i32, second: i32, s: State) -> State {
         } => {
             let mut a = io::buffer();
             let mut b = io::buffer();
-            let p = next_part(first, first_ended, &mut a);
-            let q = next_part(second, second_ended, &mut b);
+            let p = next_part(pair.first, one, first_ended, &mut a);
+            let q = next_part(pair.second, two, second_ended, &mut b);
             let n = p.len;
             let m = q.len;
             let c = s.comparison;
-            let t = s.totals;
-            list(c, t, &a[..n], &b[..m], stand_after(p, q))
+            let l = s.listing;
+            list(c, l, space, &a[..n], &b[..m], stand_after(p, q))
         }
         _ => s,
     }
 }
 
+// Nothing goes on after a write that failed.
 fn is_going(s: State) -> bool {
     let stand = s.stand;
     match stand {
-        Stand::Going { .. } => true,
+        Stand::Going { .. } => !s.listing.failed,
         _ => false,
     }
 }
 
 // All parts: 2^52 of them would be 2^64 bytes.
-fn compare(first: i32, second: i32) -> State {
+fn compare(pair: Pair, one: &[u8], two: &[u8], space: &mut [u8]) -> State {
     let mut s = State {
         comparison: Comparison::new(),
-        totals: Totals { runs: 0, bytes: 0 },
+        listing: Listing::new(),
         stand: Stand::Going {
             first_ended: false,
             second_ended: false,
@@ -129,7 +146,7 @@ fn compare(first: i32, second: i32) -> State {
     };
     let mut turns: u64 = 0x10_0000_0000_0000;
     while turns > 0 {
-        s = turn(first, second, s);
+        s = turn(pair, one, two, space, s);
         if is_going(s) {
             turns -= 1;
         } else {
@@ -139,67 +156,97 @@ fn compare(first: i32, second: i32) -> State {
     s
 }
 
-// The run at the end of the common part, the tail, and the last line.
-fn close_list(c: Comparison, t: Totals) {
-    let common = t.with_common(c.open_run());
-    let all = if 0 < c.first {
-        common.with(c.tail(), b" only in the first dump")
-    } else {
-        common.with(c.tail(), b" only in the second dump")
-    };
-    if all.runs == 0 {
-        number(b"equal: bytes ", c.start);
-    } else {
-        number(b"differ: runs ", all.runs);
-        number(b", bytes ", all.bytes);
+// What the longer dump has past the other.
+fn tail(c: Comparison, l: Listing, space: &mut [u8]) -> Listing {
+    if 0 < c.first {
+        return l.run(space, c.tail(), b" only in the first dump");
     }
-    text(b"\n");
+    l.run(space, c.tail(), b" only in the second dump")
 }
 
-fn finish(s: State) {
+fn verdict(c: Comparison, l: Listing, space: &mut [u8]) -> Listing {
+    if l.runs == 0 {
+        return l.number(space, b"equal: bytes ", c.start);
+    }
+    l.number(space, b"differ: runs ", l.runs)
+        .number(space, b", bytes ", l.bytes)
+}
+
+// The run at the end of the common part, the tail, and the last line.
+fn close_list(c: Comparison, l: Listing, space: &mut [u8]) -> Listing {
+    let common = l.common(space, c.open_run());
+    let all = tail(c, common, space);
+    verdict(c, all, space).text(space, b"\n")
+}
+
+fn finish(s: State, space: &mut [u8]) -> Listing {
     let stand = s.stand;
+    let l = s.listing;
     match stand {
         Stand::Ended => {
             let c = s.comparison;
-            let t = s.totals;
-            close_list(c, t)
+            close_list(c, l, space)
         }
-        Stand::FirstUnread => text(
+        Stand::FirstUnread => l.text(
+            space,
             b"error: the first dump could not be read to its end, runs are missing; copy it anew and compare again\n",
         ),
-        Stand::SecondUnread => text(
+        Stand::SecondUnread => l.text(
+            space,
             b"error: the second dump could not be read to its end, runs are missing; copy it anew and compare again\n",
         ),
-        Stand::PastEnd => text(
+        Stand::PastEnd => l.text(
+            space,
             b"error: a dump grew while it was read, runs are missing; compare copies of both\n",
         ),
-        _ => text(
+        _ => l.text(
+            space,
             b"error: a dump has 2^64 - 1 bytes or more, runs are missing; compare parts of it\n",
         ),
     }
 }
 
+fn compare_open(pair: Pair, one: &[u8], two: &[u8]) {
+    let mut space = io::large_buffer();
+    let s = compare(pair, one, two, &mut space);
+    let l = finish(s, &mut space);
+    l.flush(&space);
+}
+
+fn say(s: &[u8]) {
+    io::write_all(libc::STDOUT_FILENO, s);
+}
+
 fn compare_named(one: &[u8], two: &[u8]) {
-    let first = os::open_read(one);
+    let first = files::open(one);
     if first < 0 {
-        os::fail(one);
-        text(
-            b"error: the first dump cannot be opened; see that the name is right and that you may read it\n",
+        say(
+            b"error: the first dump cannot be read; see that the name is right, that it is a file and that you may read it\n",
         );
         return;
     }
-    let second = os::open_read(two);
+    let second = files::open(two);
     if second < 0 {
-        os::fail(two);
-        text(
-            b"error: the second dump cannot be opened; see that the name is right and that you may read it\n",
+        say(
+            b"error: the second dump cannot be read; see that the name is right, that it is a file and that you may read it\n",
         );
         libc::close(first);
         return;
     }
-    finish(compare(first, second));
+    compare_open(Pair { first, second }, one, two);
     libc::close(first);
     libc::close(second);
+}
+
+fn help() {
+    say(
+        b"compare_dumps FIRST SECOND lists every differing run of two files: where it starts (hexadecimal), its length in bytes, and\n",
+    );
+    say(
+        b"the index of each 4,096-byte block that it meets. What only the longer file has is one last run.\n",
+    );
+    say(b"The last line begins with equal, differ or error; a listing without one is not whole.\n");
+    say(b"tools/compare-dumps does the same with an exit status: 0 equal, 1 differ, 2 error.\n");
 }
 
 fn main() {
@@ -209,9 +256,11 @@ fn main() {
     let is_one = os::errno() == 0;
     let m = os::arg(2, &mut two);
     let is_two = os::errno() == 0;
-    if is_one & is_two & (os::arg_count() == 3) {
+    if files::is_help(&one[..n]) {
+        help();
+    } else if is_one & is_two & (os::arg_count() == 3) {
         compare_named(&one[..n], &two[..m]);
     } else {
-        text(b"error: two names are needed: compare_dumps FIRST SECOND, the files of two dumps\n");
+        say(b"error: two names are needed: compare_dumps FIRST SECOND, the files of two dumps\n");
     }
 }

@@ -157,20 +157,40 @@ fn answer(r: ReadArea) {
     }
 }
 
-fn main() {
-    let mut path = io::buffer();
-    let n = os::arg(1, &mut path);
-    if os::errno() != 0 {
-        text(b"usage: show_sfdp FILE, an SFDP area from address 0 on\n");
-        return;
-    }
-    let fd = os::open_read(&path[..n]);
-    if fd < 0 {
-        os::fail(&path[..n]);
-        return;
-    }
+fn help() {
+    text(
+        b"show_sfdp FILE prints what the SFDP area in a file says of its part. The file has the area from address 0 on, as a read by\n",
+    );
+    text(
+        b"command 5A gives it. Linux has a part's table in /sys/bus/spi/devices/*/spi-nor/sfdp.\n",
+    );
+    text(
+        b"An area that the driver refuses is told by its answer, 3, 4 or 12. A file that cannot be read is an error.\n",
+    );
+}
+
+fn show_file(name: &[u8]) {
     let mut buf = io::large_buffer();
-    let got = io::read_full(fd, &mut buf);
-    libc::close(fd);
-    answer(sfdp::read_area(&buf[..got]));
+    let area = files::read(name, &mut buf);
+    let n = area.len;
+    if area.failed {
+        text(
+            b"error: the file cannot be read; see that the name is right, that it is a file and that you may read it\n",
+        );
+    } else {
+        answer(sfdp::read_area(&buf[..n]));
+    }
+}
+
+fn main() {
+    let mut name = io::buffer();
+    let n = os::arg(1, &mut name);
+    let is_one = os::errno() == 0;
+    if files::is_help(&name[..n]) {
+        help();
+    } else if is_one & (os::arg_count() == 2) {
+        show_file(&name[..n]);
+    } else {
+        text(b"error: a name is needed: show_sfdp FILE, an SFDP area from address 0 on\n");
+    }
 }

@@ -2,19 +2,19 @@ use Prim.Native.Nat.{_-_, _≤_}
 use mathlib.Core.Path.{_≡_}
 use borrow.Author.Needs.{needs}
 use lib.ListN.{length, length-take}
-use Rattle.compare_dumps.proofs.parts.fill.Statement.{statement}
-use Rattle.compare_dumps.proofs.parts.fill.Tie as tie
-use Rattle.compare_dumps.proofs.parts.fill.Reads as reads
-use Rattle.compare_dumps.proofs.parts.fill.Lts as lts
-use Rattle.compare_dumps.proofs.parts.broken.Reads as broken-reads
+use Rattle.files.proofs.fill.Statement.{statement}
+use Rattle.files.proofs.fill.Tie as tie
+use Rattle.files.proofs.fill.Reads as reads
+use Rattle.files.proofs.fill.Lts as lts
+use Rattle.files.proofs.broken.Reads as broken-reads
 use Rattle.io.proofs.count.Reads as count-reads
 use Rattle.libc.proofs.read.Reads as read-reads
 
 abbrev Inv-loop : tie.InvT-loop
-Inv-loop fd buf₀ n₀ buf n = (n ≤ length buf) × (length buf ≡ length buf₀)
+Inv-loop fd name buf₀ n₀ buf n = (n ≤ length buf) × (length buf ≡ length buf₀)
 
 abbrev μ-loop : tie.MeasureT-loop
-μ-loop fd buf₀ n₀ buf n = length buf - n
+μ-loop fd name buf₀ n₀ buf n = length buf - n
 
 loop-holds : tie.Need-loop-holds Inv-loop μ-loop
 loop-holds c = search needs
