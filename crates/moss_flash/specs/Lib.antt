@@ -2,3 +2,4 @@ pub mod Records
 pub mod Calls
 pub mod Plans
 pub mod Asked
+pub mod Tables

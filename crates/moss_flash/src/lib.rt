@@ -5,6 +5,7 @@ pub mod plan_c;
 pub mod records;
 pub mod settings_c;
 pub mod starts_c;
+pub mod table_c;
 
 ghost use mathlib.Core.Path.{_≡_};
 ghost use Rattle.moss_flash.specs.Calls.{unpackOf, openedOf, openedStart, numberIn};
