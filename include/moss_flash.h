@@ -405,6 +405,18 @@ static inline uint32_t moss_flash_entry_size(const uint8_t *entry) { return moss
 static inline uint32_t moss_flash_entry_base(const uint8_t *entry) { return moss_flash_le32(entry + MOSS_FLASH_ENTRY_BASE); }
 static inline uint32_t moss_flash_entry_time(const uint8_t *entry) { return moss_flash_le32(entry + MOSS_FLASH_ENTRY_TIME); }
 
+/* ---- tables for emulated parts */
+
+#define MOSS_FLASH_TABLE_SIZE 80 /* an SFDP area that moss_flash_write_table writes, at least */
+
+/* The session has no parameters, or no SFDP table of 16 dwords gives them back exactly. Given by moss_flash_write_table alone. Refused.
+ * Next: read the parameters of a part whose table has 16 dwords. */
+#define MOSS_FLASH_NO_FORM 15
+
+/* Writes the SFDP area of a part with the session's parameters into the first 80 bytes of table: an emulated part that holds it is read as the part that the
+ * parameters came from. 13, 15, 11 (table is shorter than 80 bytes): no byte of it is changed. Bytes behind the 80 are left alone. A command may be running. */
+uint8_t moss_flash_write_table(const uint8_t *session, size_t session_len, uint8_t *table, size_t table_len);
+
 #ifdef __cplusplus
 }
 #endif
