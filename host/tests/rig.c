@@ -170,7 +170,7 @@ static void check_transaction(const struct rig *g)
     MUST(moss_flash_event_polls(e) == 0 && moss_flash_event_a(e) == 0 && moss_flash_event_b(e) == 0);
 }
 
-/* A step that is lent a byte too little: 11 with the need and the polls so far, and no byte changed. */
+/* A step that is lent a byte too little: 11 with the need and the polls issued, and no byte changed. */
 static void lend_too_little(const struct rig *g, size_t reply_len)
 {
     uint8_t session[MOSS_FLASH_SESSION_SIZE], event[MOSS_FLASH_EVENT_SIZE] = {0};
@@ -186,7 +186,7 @@ static void lend_too_little(const struct rig *g, size_t reply_len)
     if (now == MOSS_FLASH_NO_ROOM) {
         need = moss_flash_event_need(event);
         CHECK(need >= 1 && need <= g->work.length);
-        CHECK(moss_flash_event_polls(event) == g->polls - moss_flash_event_is_poll(g->event));
+        CHECK(moss_flash_event_polls(event) == g->polls);
         CHECK(!memcmp(session, g->session, sizeof session));
         now = moss_flash_step(session, sizeof session, 1, g->reply, reply_len + 1, g->work.bytes, (size_t)need - 1, event,
                          sizeof event);

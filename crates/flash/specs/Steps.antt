@@ -86,8 +86,8 @@ counted s = (s .polls + cond (waitsOn s (s .phase) .poll) 1 0) % 2 ^ 64
 unfoldable pub isFull : Session → Bool → List ℕ → Bool
 isFull s failed r = not failed && eqb (length r) (waitsOn s (s .phase) .reply)
 
--- ---- THE STEP. An ended command repeats its answer; room that is too short is 11, the reply unused; a failure or a reply of
--- another length is 8; else the command goes on
+-- ---- THE STEP. An ended command repeats its answer; room that is too short is 11 with the polls issued, the reply unused; a failure or
+-- a reply of another length is 8; else the command goes on
 pub record Taken : Type 0 where
   pub out : Stepped
   pub room : List ℕ
@@ -95,6 +95,6 @@ pub record Taken : Type 0 where
 unfoldable pub stepOf : Session → Bool → List ℕ → List ℕ → Taken
 stepOf s failed r room =
     cond (isEnded (s .phase)) (record { out = told s; room = room })
-    (cond (ltb (length room) (needOf (s .phase))) (record { out = record { session = s; event = Answered (NoRoom (needOf (s .phase))) (s .polls) }; room = room })
+    (cond (ltb (length room) (needOf (s .phase))) (record { out = record { session = s; event = Answered (NoRoom (needOf (s .phase))) (counted s) }; room = room })
     (cond (isFull s failed r) (record { out = told (advanced s (counted s) (s .phase) r room); room = roomAfter (s .phase) r room })
     (record { out = told (ends s (counted s) (endsAs (s .phase)) Access); room = room })))

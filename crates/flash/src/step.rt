@@ -61,13 +61,13 @@ impl Session {
             return self.tell();
         }
         let need = phases::need_of(p);
+        let n = replies::count(self.polls, p);
         if (work.len() as u64) < need {
             return Stepped {
                 session: self,
-                event: Event::Answered(Answer::NoRoom(need), self.polls),
+                event: Event::Answered(Answer::NoRoom(need), n),
             };
         }
-        let n = replies::count(self.polls, p);
         if replies::is_full(failed, reply.len() as u64, p) {
             if replies::of_table(p) {
                 return table_on(self, n, p, reply, work);

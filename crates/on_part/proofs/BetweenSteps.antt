@@ -169,7 +169,7 @@ unfolding stepOf
 ended-step s failed reply room i = rw i
 
 pub short-step : (s : Session) (failed : Bool) (reply room : List ℕ) → Runs s → length room < needOf (s .phase)
-    → stepOf s failed reply room ≡ stays s room (NoRoom (needOf (s .phase))) (s .polls)
+    → stepOf s failed reply room ≡ stays s room (NoRoom (needOf (s .phase))) (counted s)
 unfolding stepOf
 short-step s failed reply room h l = rw (h, lt-ltb (length room) (needOf (s .phase)) l)
 
@@ -184,7 +184,7 @@ module _ (s : Session) (failed : Bool) (reply room : List ℕ) where
   -- of each of the four ways of a step
   abbrev each-way : (Taken → Type 0) → Type 0
   each-way P =
-      (isEnded (s .phase) ≡ true → P (record { out = told s; room = room })) → (Runs s → P (stays s room (NoRoom (needOf (s .phase))) (s .polls)))
+      (isEnded (s .phase) ≡ true → P (record { out = told s; room = room })) → (Runs s → P (stays s room (NoRoom (needOf (s .phase))) (counted s)))
       → (Runs s → P (record { out = told full; room = roomAfter (s .phase) reply room })) → (Runs s → P (record { out = told failing; room = room }))
       → P (stepOf s failed reply room)
 

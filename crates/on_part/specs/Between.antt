@@ -17,7 +17,7 @@ use Rattle.phases.specs.declared.Phase.{Phase}
 use Rattle.flash.specs.declared.Session.{Session}
 use Rattle.phases.specs.declared.Transaction.{Transaction}
 use Rattle.flash.specs.declared.Event.the-variants.{Send, Answered}
-use Rattle.flash.specs.Steps.{Taken, stepOf}
+use Rattle.flash.specs.Steps.{Taken, counted, stepOf}
 use Rattle.phases.specs.Moves.{isEnded}
 use Rattle.flash.specs.Starts.{fresh}
 use Rattle.meaning.specs.Meaning.{keptOf, Idle}
@@ -51,9 +51,10 @@ pub record Needs : Type 0 where
   -- each step keeps it
   pub kept : (s : Session) (failed : Bool) (reply room : List ℕ) (t : Transaction) → Runs s → stepOf s failed reply room .out .event ≡ Send t
       → need (stepOf s failed reply room .out .session) ≡ need s
-  -- with less lent a step is 11 with the need and the polls so far, its reply unused, and the command waits unchanged
+  -- with less lent a step is 11 with the need and the polls issued, that whose reply it brings too; the reply is unused, and the command
+  -- waits unchanged
   pub short : (s : Session) (failed : Bool) (reply room : List ℕ) → Runs s → length room < need s
-      → stepOf s failed reply room ≡ stays s room (NoRoom (need s)) (s .polls)
+      → stepOf s failed reply room ≡ stays s room (NoRoom (need s)) (counted s)
 
 pub record Between : Type 0 where
   -- a fresh session counts as ended with Done and 0 polls

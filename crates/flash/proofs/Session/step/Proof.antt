@@ -31,11 +31,11 @@ returns c = way-ended _ _ _ _ _ (c .tell .ensures) (sym (c .before .before .is-e
 need-of-requires : tie.Need-need-of-requires
 need-of-requires c κs = search needs
 
-returns-2 : tie.Need-returns-2
-returns-2 c = way-short _ _ _ _ (sym (c .before .before .before .is-ended .ensures) ∙ c .before .before .if1 .left) _ (c .before .need-of .ensures) (c .if2 .taken)
-
 count-requires : tie.Need-count-requires
 count-requires c κs = search needs
+
+returns-2 : tie.Need-returns-2
+returns-2 c = way-short _ _ _ _ (sym (c .before .before .before .before .is-ended .ensures) ∙ c .before .before .before .if1 .left) _ (c .before .before .need-of .ensures) _ (c .before .count .ensures) (c .if2 .taken)
 
 is-full-requires : tie.Need-is-full-requires
 is-full-requires c κs = search needs
@@ -51,7 +51,7 @@ same-length c = search needs
 
 returns-3 : tie.Need-returns-3
 returns-3 c =
-    way-on _ _ _ _ (sym (c .before .before .before .before .before .before .before .before .before .before .before .before .is-ended .ensures) ∙ c .before .before .before .before .before .before .before .before .before .before .before .if1 .left) _ (c .before .before .before .before .before .before .before .before .before .before .need-of .ensures) (c .before .before .before .before .before .before .before .before .before .if2 .left) _ (c .before .before .before .before .before .before .before .before .count .ensures) _ (c .before .before .before .before .before .before .before .is-full .ensures) _ _ (c .before .before .before .before .before .before .if3 .taken)
+    way-on _ _ _ _ (sym (c .before .before .before .before .before .before .before .before .before .before .before .before .is-ended .ensures) ∙ c .before .before .before .before .before .before .before .before .before .before .before .if1 .left) _ (c .before .before .before .before .before .before .before .before .before .before .need-of .ensures) _ (c .before .before .before .before .before .before .before .before .before .count .ensures) (c .before .before .before .before .before .before .before .before .if2 .left) _ (c .before .before .before .before .before .before .before .is-full .ensures) _ _ (c .before .before .before .before .before .before .if3 .taken)
     (c .before .before .table-on .ensures (sym (c .before .before .before .before .before .of-table .ensures) ∙ c .before .before .before .before .if4 .taken))
 
 advance-requires : tie.Need-advance-requires
@@ -72,7 +72,7 @@ same-length-2 c = search needs
 returns-4 : tie.Need-returns-4
 returns-4 c =
     rw (c .event-at .ensures, c .before .goes .ensures)
-    (way-goes _ _ _ _ (sym (c .before .before .before .before .before .before .before .before .before .before .before .before .before .before .before .before .is-ended .ensures) ∙ c .before .before .before .before .before .before .before .before .before .before .before .before .before .before .before .if1 .left) _ (c .before .before .before .before .before .before .before .before .before .before .before .before .before .before .need-of .ensures) (c .before .before .before .before .before .before .before .before .before .before .before .before .before .if2 .left) _ (c .before .before .before .before .before .before .before .before .before .before .before .before .count .ensures) _ (c .before .before .before .before .before .before .before .before .before .before .before .is-full .ensures) _ _ (c .before .before .before .before .before .before .before .before .before .before .if3 .taken)
+    (way-goes _ _ _ _ (sym (c .before .before .before .before .before .before .before .before .before .before .before .before .before .before .before .before .is-ended .ensures) ∙ c .before .before .before .before .before .before .before .before .before .before .before .before .before .before .before .if1 .left) _ (c .before .before .before .before .before .before .before .before .before .before .before .before .before .before .need-of .ensures) _ (c .before .before .before .before .before .before .before .before .before .before .before .before .before .count .ensures) (c .before .before .before .before .before .before .before .before .before .before .before .before .if2 .left) _ (c .before .before .before .before .before .before .before .before .before .before .before .is-full .ensures) _ _ (c .before .before .before .before .before .before .before .before .before .before .if3 .taken)
     (c .before .before .before .before .before .before .advance .ensures _ (sym (c .before .before .before .before .before .before .before .before .before .of-table .ensures) ∙ c .before .before .before .before .before .before .before .before .if4 .left) (sym (c .before .before .before .before .before .before .before .before .before .before .before .before .before .before .before .before .is-ended .ensures) ∙ c .before .before .before .before .before .before .before .before .before .before .before .before .before .before .before .if1 .left)) (c .before .before .before .before .keep .ensures))
 
 ends-as-requires : tie.Need-ends-as-requires
@@ -86,7 +86,7 @@ tell-requires-2 c κs = search needs
 
 returns-5 : tie.Need-returns-5
 returns-5 c =
-    way-access _ _ _ _ (sym (c .before .before .before .before .before .before .before .before .before .is-ended .ensures) ∙ c .before .before .before .before .before .before .before .before .if1 .left) _ (c .before .before .before .before .before .before .before .need-of .ensures) (c .before .before .before .before .before .before .if2 .left) _ (c .before .before .before .before .before .count .ensures) _ (c .before .before .before .before .is-full .ensures) _
+    way-access _ _ _ _ (sym (c .before .before .before .before .before .before .before .before .before .is-ended .ensures) ∙ c .before .before .before .before .before .before .before .before .if1 .left) _ (c .before .before .before .before .before .before .before .need-of .ensures) _ (c .before .before .before .before .before .before .count .ensures) (c .before .before .before .before .before .if2 .left) _ (c .before .before .before .before .is-full .ensures) _
     (rw (c .tell2 .ensures, c .before .ended .ensures, c .before .before .ends-as .ensures)) (c .before .before .before .if3 .left)
 
 pub step-spec : {M : Type 1} → statement M
@@ -97,8 +97,8 @@ step-spec =
     tell-requires
     returns
     need-of-requires
-    returns-2
     count-requires
+    returns-2
     is-full-requires
     of-table-requires
     table-on-requires
