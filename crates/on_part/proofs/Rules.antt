@@ -31,7 +31,7 @@ use Rattle.on_part.proofs.BetweenSteps.{ended-step, short-step, step-ne
 use Rattle.on_part.proofs.BetweenStarts.{start-runs, start-given}
 
 -- ---- setters: each goes by what it tried
-setter-tried : (x : Setter) (s : Session) → setterOf x s ≡ setting s (tried x (s .settings))
+pub setter-tried : (x : Setter) (s : Session) → setterOf x s ≡ setting s (tried x (s .settings))
 setter-tried (AddressBytes n) s = refl
 setter-tried (PageSize n) s = refl
 setter-tried (EraseSize n) s = refl
@@ -49,11 +49,11 @@ settings-tried (PollLimit n) s = refl
 settings-tried (Capacity n) s = refl
 settings-tried NoCapacity s = refl
 
-setter-runs : (x : Setter) (s : Session) → Runs s → setterOf x s ≡ record { session = s; event = Answered BadSession 0 }
+pub setter-runs : (x : Setter) (s : Session) → Runs s → setterOf x s ≡ record { session = s; event = Answered BadSession 0 }
 unfolding setting unlessRuns
 setter-runs x s h = setter-tried x s ∙ rw h
 
-idle-setting : (s : Session) (a : SetAnswer) → Idle s → setting s a ≡ setTo s a
+pub idle-setting : (s : Session) (a : SetAnswer) → Idle s → setting s a ≡ setTo s a
 unfolding setting unlessRuns
 idle-setting s a i = rw i
 

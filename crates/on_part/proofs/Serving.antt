@@ -276,7 +276,7 @@ module _ (p : Part) (times : Times) where
       by (tells s o h z) e r = serves-told c k 0 [] state s room o h (omega (arith, z)) m b e
 
 -- ---- the eleven commands
-begun : (c : Call) (s : Session) (room : List ℕ) → Idle s → Begun (startOf c s room .out) (startOf c s room .room) (script c (keptOf s room))
+pub begun : (c : Call) (s : Session) (room : List ℕ) → Idle s → Begun (startOf c s room .out) (startOf c s room .room) (script c (keptOf s room))
 begun (Read a n) s room i = read-begun s room i a n
 begun (LegacyRead a n) s room i = legacy-begun s room i a n
 begun ReadParams s room i = params-begun s room i

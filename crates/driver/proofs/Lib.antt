@@ -1,0 +1,4 @@
+pub mod Splitting
+pub mod Simulating
+pub mod Rooms
+pub mod Agreeing
