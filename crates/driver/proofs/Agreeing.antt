@@ -575,6 +575,9 @@ at-first = record {
   state = inl (record { ending = record { answer = Done; polls = 0; kept = keptOf fresh [] }; is = refl; ended = refl; event = refl; kept = refl });
 }
 
+abbrev pub plainly : Shows (λ (x : Told Answer). x)
+plainly = record { sent = λ t. t; said = λ a n. (a, n); sending = λ t. refl; answering = λ a n. refl }
+
 pub followed-by-value : FollowedByValue
 followed-by-value ts h =
-    simulated byValue scripts (λ x. x) Agree (record { sent = λ t. t; said = λ a n. (a, n); sending = λ t. refl; answering = λ a n. refl }) turns ts h fresh (scripts .fresh) [] at-first
+    simulated byValue scripts (λ x. x) Agree plainly turns ts h fresh (scripts .fresh) [] at-first

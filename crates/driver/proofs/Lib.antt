@@ -2,3 +2,4 @@ pub mod Splitting
 pub mod Simulating
 pub mod Rooms
 pub mod Agreeing
+pub mod Reaching

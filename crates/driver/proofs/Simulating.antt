@@ -30,7 +30,7 @@ buffered-is : {A : Type 0} (D : Driver A) (q : Told A) (old new : List ℕ) → 
 buffered-is D (sends t) old new = refl
 buffered-is D (answers a n) old new = refl
 
-next-is : {A : Type 0} (D : Driver A) (t : Turn) (x : D .Held) (b : List ℕ) → next D t (record { held = x; buffer = b })
+pub next-is : {A : Type 0} (D : Driver A) (t : Turn) (x : D .Held) (b : List ℕ) → next D t (record { held = x; buffer = b })
     ≡ record { held = call D t (record { held = x; buffer = b }) .held; buffer = later t (call D t (record { held = x; buffer = b })) b }
 next-is D (Starts c buffer k) x b =
     ap (λ (l : List ℕ). record { held = call D (Starts c buffer k) (record { held = x; buffer = b }) .held; buffer = l })
@@ -65,7 +65,7 @@ module _ {A : Type 0} (D : Driver A) (E : Driver Answer) (show : Told Answer →
     kindly-shown (sends t) old new = ap (λ (z : Told A). kindly z old new) (alike .sending t)
     kindly-shown (answers a n) old new = ap (λ (z : Told A). kindly z old new) (alike .answering a n)
 
-    later-same : (t : Turn) (u : Back (D .Held) A) (v : Back (E .Held) Answer) (b : List ℕ) → u .told ≡ show (v .told) → u .room ≡ v .room → later t u b ≡ later t v b
+    pub later-same : (t : Turn) (u : Back (D .Held) A) (v : Back (E .Held) Answer) (b : List ℕ) → u .told ≡ show (v .told) → u .room ≡ v .room → later t u b ≡ later t v b
     later-same (Starts c buffer k) u v b h g =
         ap (λ (q : Told A). kindly q b (u .room ++ drop k buffer)) h
         ∙ kindly-shown (v .told) b (u .room ++ drop k buffer)

@@ -1,4 +1,5 @@
 -- The driver by value: a session, its starts, its setters and its step, as the promises of crate flash name them.
+use mathlib.Core.Bool.{Bool}
 use mathlib.Core.List.{List, []}
 use Prim.Native.Nat.{ℕ}
 use Rattle.commands.specs.declared.Answer.{Answer}
@@ -24,7 +25,7 @@ byValue = record {
   Held = Session;
   fresh = fresh;
   start = λ c s room. backOf (startOf c s room);
-  step = λ failed r s room. backOf (stepOf s failed r room);
+  step = λ (failed : Bool) r s room. backOf (stepOf s failed r room);
   set = λ x s. backOf (record { out = setterOf x s; room = [] });
   again = λ s room. backOf (record { out = told s; room = room });
   keeps = λ s. keptOf s [];

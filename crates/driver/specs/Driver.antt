@@ -102,6 +102,11 @@ module _ {A : Type 0} (D : Driver A) where
   abbrev pub first : Stand
   first = record { held = D .fresh; buffer = [] }
 
+  -- where some turns come to
+  unfoldable pub reached : List Turn → Stand → Stand
+  reached [] x = x
+  reached (t ∷ ts) x = reached ts (next t x)
+
 -- ---- THE SCRIPTS as a driver: it holds what is to come of the command, and the room that this needs. An ended command is its outcome
 pub record Now : Type 0 where
   pub need : ℕ

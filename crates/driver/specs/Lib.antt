@@ -1,2 +1,3 @@
 pub mod Driver
 pub mod ByValue
+pub mod Demand3

@@ -81,84 +81,81 @@ pub told-ends : (s : Session) → isEnded (s .phase) ≡ true → (a : Answer) �
 unfolding told
 told-ends s e = event-ends s (s .phase) e
 
--- ---- the starts of an idle session
-module _ (s : Session) (idle : Idle s) where
-  refused-rests : (a : Answer) → Rests (refused s a)
-  refused-rests a = idle
-
-  starts-rests : (p : Phase) → Rests (starts s p)
-  starts-rests p = told-rests (goes s 0 p)
-
-  unless-rests : (x : Stepped) → Rests x → Rests (unlessRuns s x)
+-- ---- a start is a refusal, or begins in a phase: what holds of all these holds of each start
+module _ (s : Session) (P : Stepped → Type 0) (refusal : (a : Answer) → P (refused s a)) (begun : (p : Phase) → P (starts s p)) where
+  unless-by : (x : Stepped) → P x → P (unlessRuns s x)
   unfolding unlessRuns
-  unless-rests x h = by-cond Rests (isEnded (s .phase)) x (refused s BadSession) (λ t. h) (λ t. idle)
+  unless-by x h = by-cond P (isEnded (s .phase)) x (refused s BadSession) (λ t. h) (λ t. refusal BadSession)
 
-  range-rests : (a n : ℕ) (x : Stepped) → Rests x → Rests (inRange s a n x)
+  range-by : (a n : ℕ) (x : Stepped) → P x → P (inRange s a n x)
   unfolding inRange
-  range-rests a n x h = by-cond Rests (acceptedRange (s .settings) a n) x (refused s (invalid (lastAddress a n))) (λ t. h) (λ t. idle)
+  range-by a n x h = by-cond P (acceptedRange (s .settings) a n) x _ (λ t. h) (λ t. refusal (invalid (lastAddress a n)))
 
-  types-rests : (x : Stepped) → Rests x → Rests (haveTypes s x)
+  types-by : (x : Stepped) → P x → P (haveTypes s x)
   unfolding haveTypes
-  types-rests x h = by-cond Rests (eqb (length (typesOf s)) 0) (refused s NoEraseInstruction) x (λ t. idle) (λ t. h)
+  types-by x h = by-cond P (eqb (length (typesOf s)) 0) _ x (λ t. refusal NoEraseInstruction) (λ t. h)
 
-  room-rests : (n room : ℕ) (x : Stepped) → Rests x → Rests (roomFor s n room x)
+  room-by : (n room : ℕ) (x : Stepped) → P x → P (roomFor s n room x)
   unfolding roomFor
-  room-rests n room x h = by-cond Rests (ltb room n) (refused s (NoRoom n)) x (λ t. idle) (λ t. h)
+  room-by n room x h = by-cond P (ltb room n) _ x (λ t. refusal (NoRoom n)) (λ t. h)
 
-  span-rests : (o : SpanCheck) (x : Stepped) → Rests x → Rests (spanFits s o x)
-  span-rests Span.Fits x h = h
-  span-rests (Span.Bad a) x h = idle
+  span-by : (o : SpanCheck) (x : Stepped) → P x → P (spanFits s o x)
+  span-by Span.Fits x h = h
+  span-by (Span.Bad a) x h = refusal (invalid a)
 
   -- over the starts with data
-  check-rests : (ok : Bool) (a : Answer) (b : Start) → Rests (startOut b) → Rests (startOut (checked ok s a b))
-  check-rests true a b h = h
-  check-rests false a b h = idle
+  check-by : (ok : Bool) (a : Answer) (b : Start) → P (startOut b) → P (startOut (checked ok s a b))
+  check-by true a b h = h
+  check-by false a b h = refusal a
 
-  read-rests : (legacy : Bool) (a n room : ℕ) → Rests (startRead s legacy a n room)
+  read-by : (legacy : Bool) (a n room : ℕ) → P (startRead s legacy a n room)
   unfolding startRead
-  read-rests legacy a n room = unless-rests _ (range-rests a n _ (room-rests n room _ (starts-rests (Reading (Reads.Read legacy a n)))))
+  read-by legacy a n room = unless-by _ (range-by a n _ (room-by n room _ (begun (Reading (Reads.Read legacy a n)))))
 
-  reset-rests : Rests (startReset s)
+  reset-by : P (startReset s)
   unfolding startReset
-  reset-rests =
-      unless-rests _
-      (by-cond Rests (not (s .known && s .params .jesd216a) || s .params .«reset_inst_66_99») _ _ (λ t. starts-rests (Resetting Resets.Enable))
-      (λ t. by-cond Rests (s .params .«reset_inst_f0») _ (refused s NoResetInstruction) (λ t. starts-rests (Resetting Resets.F0)) (λ t. idle)))
+  reset-by =
+      unless-by _
+      (by-cond P (not (s .known && s .params .jesd216a) || s .params .«reset_inst_66_99») _ _ (λ t. begun (Resetting Resets.Enable))
+      (λ t. by-cond P (s .params .«reset_inst_f0») _ _ (λ t. begun (Resetting Resets.F0)) (λ t. refusal NoResetInstruction)))
 
-  sectors-rests : (a n : ℕ) → Rests (startEraseSectors s a n)
+  sectors-by : (a n : ℕ) → P (startEraseSectors s a n)
   unfolding startEraseSectors
-  sectors-rests a n =
-      unless-rests _
-      (range-rests a n _
-      (types-rests _
-      (span-rests (spanCheck a n (surveyFor s a n .first) (surveyFor s a n .end)) _ (starts-rests (Erasing (Erases.Sectors a (a + n - 1)) false)))))
+  sectors-by a n =
+      unless-by _
+      (range-by a n _
+      (types-by _ (span-by (spanCheck a n (surveyFor s a n .first) (surveyFor s a n .end)) _ (begun (Erasing (Erases.Sectors a (a + n - 1)) false)))))
 
-  program-rests : (a : ℕ) (d : List ℕ) (v : Bool) (room : List ℕ) → Rests (startProgram s a d v room .out)
+  program-by : (a : ℕ) (d : List ℕ) (v : Bool) (room : List ℕ) → P (startProgram s a d v room .out)
   unfolding startProgram beginProgram
-  program-rests a d v room =
-      check-rests (isEnded (s .phase)) _ _
-      (check-rests (acceptedRange (s .settings) a (length d)) _ _
-      (check-rests (not (eqb (length (typesOf s)) 0)) _ _
-      (check-rests (acceptedRange (s .settings) (surveyFor s a (length d) .first) (surveyFor s a (length d) .end - surveyFor s a (length d) .first)) _ _
-      (check-rests (leb (surveyFor s a (length d) .end - surveyFor s a (length d) .first) (length room)) _ _ (told-rests _)))))
+  program-by a d v room =
+      check-by (isEnded (s .phase)) _ _
+      (check-by (acceptedRange (s .settings) a (length d)) _ _
+      (check-by (not (eqb (length (typesOf s)) 0)) _ _
+      (check-by (acceptedRange (s .settings) (surveyFor s a (length d) .first) (surveyFor s a (length d) .end - surveyFor s a (length d) .first)) _ _
+      (check-by (leb (surveyFor s a (length d) .end - surveyFor s a (length d) .first) (length room)) _ _ (begun _)))))
 
-  data-rests : (a : ℕ) (d room : List ℕ) → Rests (startProgramData s a d room .out)
+  data-by : (a : ℕ) (d room : List ℕ) → P (startProgramData s a d room .out)
   unfolding startProgramData beginData
-  data-rests a d room =
-      check-rests (isEnded (s .phase)) _ _
-      (by-cond (λ (b : Start). Rests (startOut b)) (eqb (length d) 0) _ _ (λ t. told-rests _)
-      (λ t. check-rests (acceptedRange (s .settings) a (length d)) _ _ (check-rests (leb (length d) (length room)) _ _ (told-rests _))))
+  data-by a d room =
+      check-by (isEnded (s .phase)) _ _
+      (by-cond (λ (b : Start). P (startOut b)) (eqb (length d) 0) _ _ (λ t. begun _)
+      (λ t. check-by (acceptedRange (s .settings) a (length d)) _ _ (check-by (leb (length d) (length room)) _ _ (begun _))))
 
-  pub start-rests : (c : Call) (room : List ℕ) → Rests (startOf c s room .out)
+  pub start-by : (c : Call) (room : List ℕ) → P (startOf c s room .out)
   unfolding startReadParams startErase startReadJedecId startIsBusy startIsProtected
-  start-rests (Read a n) room = read-rests false a n (length room)
-  start-rests (LegacyRead a n) room = read-rests true a n (length room)
-  start-rests ReadParams room = unless-rests _ (room-rests 2056 (length room) _ (starts-rests (Reading Reads.Header)))
-  start-rests Erase room = unless-rests _ (starts-rests (Erasing Erases.Chip false))
-  start-rests (EraseSectors a n) room = sectors-rests a n
-  start-rests (Program a d v) room = program-rests a d v room
-  start-rests (ProgramData a d) room = data-rests a d room
-  start-rests Reset room = reset-rests
-  start-rests ReadJedecId room = unless-rests _ (starts-rests (Reading Reads.Id))
-  start-rests IsBusy room = unless-rests _ (starts-rests (Polling Polls.Once 0))
-  start-rests IsProtected room = unless-rests _ (starts-rests (Reading Reads.Protected))
+  start-by (Read a n) room = read-by false a n (length room)
+  start-by (LegacyRead a n) room = read-by true a n (length room)
+  start-by ReadParams room = unless-by _ (room-by 2056 (length room) _ (begun (Reading Reads.Header)))
+  start-by Erase room = unless-by _ (begun (Erasing Erases.Chip false))
+  start-by (EraseSectors a n) room = sectors-by a n
+  start-by (Program a d v) room = program-by a d v room
+  start-by (ProgramData a d) room = data-by a d room
+  start-by Reset room = reset-by
+  start-by ReadJedecId room = unless-by _ (begun (Reading Reads.Id))
+  start-by IsBusy room = unless-by _ (begun (Polling Polls.Once 0))
+  start-by IsProtected room = unless-by _ (begun (Reading Reads.Protected))
+
+-- the starts of an idle session
+pub start-rests : (s : Session) → Idle s → (c : Call) (room : List ℕ) → Rests (startOf c s room .out)
+start-rests s idle c room = start-by s Rests (λ a. idle) (λ p. told-rests (goes s 0 p)) c room
