@@ -84,11 +84,11 @@ pub record Agree (s : Session) (now : Now) (buffer : List ℕ) : Type 0 where
   pub bytes : OfBytes buffer
   pub state : Idles s now ⊎ Waits s now buffer
 
-abbrev SameAs : Session → Now → List ℕ → Turn → Type 0
+abbrev pub SameAs : Session → Now → List ℕ → Turn → Type 0
 SameAs s now b t = Same byValue scripts (λ x. x) Agree s now b t
 
 -- ---- small laws
-told-session : (s : Session) → told s .session ≡ s
+pub told-session : (s : Session) → told s .session ≡ s
 unfolding told
 told-session s = refl
 
@@ -111,14 +111,14 @@ unfolding told eventOf seen isFull
 here-waits s room e h = ap (λ (x : Taken). here (seen (x .out) (x .room))) (step-short s room e h true [] refl)
 
 -- as many bytes as were lent come back
-step-long : (s : Session) (failing : Bool) (r room : List ℕ) → length (stepOf s failing r room .room) ≡ length room
+pub step-long : (s : Session) (failing : Bool) (r room : List ℕ) → length (stepOf s failing r room .room) ≡ length room
 unfolding stepOf
 step-long s failing r room =
     by-cond (λ (x : Taken). length (x .room) ≡ length room) (isEnded (s .phase)) _ _ (λ t. refl)
     (λ t. by-cond (λ (x : Taken). length (x .room) ≡ length room) (ltb (length room) (needOf (s .phase))) _ _ (λ t. refl)
     (λ t. by-cond (λ (x : Taken). length (x .room) ≡ length room) (isFull s failing r) _ _ (λ t. room-kept (s .phase) r room) (λ t. refl)))
 
-of-bytes : (l : List ℕ) → OfBytes l → Bytes l
+pub of-bytes : (l : List ℕ) → OfBytes l → Bytes l
 of-bytes l h = record { below = λ i. each-below l i h }
 
 reply-bytes : (failing : Bool) (r : List ℕ) → OfBytes r → Bytes (bytesIn (replied failing r))
@@ -131,7 +131,7 @@ takes-replied s true r room = sym (failure-blind s r room)
 takes-replied s false r room = refl
 
 -- ---- what is handed back can be packed again
-start-whole : (c : Call) (s : Session) (room : List ℕ) → Whole s → Whole (startOf c s room .out .session)
+pub start-whole : (c : Call) (s : Session) (room : List ℕ) → Whole s → Whole (startOf c s room .out .session)
 start-whole (Read a n) s room h = keeps-whole .reads s h _ _ _ _
 start-whole (LegacyRead a n) s room h = keeps-whole .reads s h _ _ _ _
 start-whole ReadParams s room h = keeps-whole .readsParams s h _
@@ -144,7 +144,7 @@ start-whole ReadJedecId s room h = keeps-whole .readsId s h
 start-whole IsBusy s room h = keeps-whole .tellsBusy s h
 start-whole IsProtected s room h = keeps-whole .tellsProtected s h
 
-set-whole : (a : Setter) (s : Session) → Typed (Sets a) → Whole s → Whole (setterOf a s .session)
+pub set-whole : (a : Setter) (s : Session) → Typed (Sets a) → Whole s → Whole (setterOf a s .session)
 set-whole (AddressBytes n) s t h = keeps-whole .setsAddressBytes s h n
 set-whole (PageSize n) s t h = keeps-whole .setsPageSize s h n
 set-whole (EraseSize n) s t h = keeps-whole .setsEraseSize s h n
@@ -423,12 +423,12 @@ module _ (s : Session) (now : Now) (b : List ℕ) (q : Agree s now b) (w : Waits
       by false e = run-steps f r h k (ltb-false _ _ e)
 
 -- ---- a start of an idle session
-given-enough : {x : Stepped} {room : List ℕ} → Given room x → (t : Transaction) → x .event ≡ Send t → needOf (x .session .phase) ≤ length room
+pub given-enough : {x : Stepped} {room : List ℕ} → Given room x → (t : Transaction) → x .event ≡ Send t → needOf (x .session .phase) ≤ length room
 unfolding told
 given-enough (gave b m e) t h = no-true (ap isAnswer (sym h ∙ e))
 given-enough (goesOn s o h z) t e = h
 
-given-told : {x : Stepped} {room : List ℕ} → Given room x → (t : Transaction) → x .event ≡ Send t → x ≡ told (x .session)
+pub given-told : {x : Stepped} {room : List ℕ} → Given room x → (t : Transaction) → x .event ≡ Send t → x ≡ told (x .session)
 unfolding told
 given-told (gave b m e) t h = no-true (ap isAnswer (sym h ∙ e))
 given-told (goesOn s o h z) t e = refl

@@ -133,6 +133,9 @@ phase-takes s (Verifying c) o = verify-takes _ (verifyNeed c) c
 phase-takes s (Resetting c) o = reset-takes 0 c
 phase-takes s (Ended c a) o = record { within = omega arith }
 
+pub waits-within : (s : Session) → Fit s → waitsOn s (s .phase) .from + waitsOn s (s .phase) .len ≤ needOf (s .phase)
+waits-within s o = phase-takes s (s .phase) o .within
+
 -- the transaction that a session waits on has its payload in the first bytes
 pub sent-split : (s : Session) → Fit s → (a x : List ℕ) → length a ≡ needOf (s .phase) → sentOf (waitsOn s (s .phase)) (a ++ x) ≡ sentOf (waitsOn s (s .phase)) a
 sent-split s o a x h = sent-first (waitsOn s (s .phase)) a x (omega (arith, h, phase-takes s (s .phase) o .within))

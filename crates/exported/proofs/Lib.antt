@@ -1,1 +1,4 @@
 pub mod Same
+pub mod Decoding
+pub mod Widths
+pub mod Exports
