@@ -44,14 +44,12 @@ use Rattle.rule.specs.Kept.{Whole}
 use Rattle.rule.proofs.Whole.{keeps-whole}
 use Rattle.rule.proofs.Steps.{few-polls}
 use Rattle.rule.proofs.Fits.{rule-fits, rule-means}
-use Rattle.nor_model.specs.Demand3.{Setter, AddressBytes, PageSize, EraseSize, EraseOpcode, PollLimit, Capacity, NoCapacity}
+use Rattle.nor_model.specs.Demand3.{Setter, AddressBytes, PageSize, EraseSize, EraseOpcode, PollLimit, Capacity, NoCapacity, tried}
 use Rattle.on_part.specs.OnPart.{startOf, setterOf}
-use Rattle.on_part.specs.Between.{tried}
-use Rattle.on_part.specs.Between as Between
 use Rattle.on_part.proofs.Resting.{isAnswer, told-rests, told-runs, told-ends, start-rests}
 use Rattle.on_part.proofs.BetweenSteps.{ended-step, short-step, step-needs}
 use Rattle.on_part.proofs.BetweenStarts.{start-runs, start-given}
-use Rattle.on_part.proofs.Rules.{setter-tried, setter-runs, idle-setting}
+use Rattle.on_part.proofs.Rules.{setter-runs, idle-setting}
 use Rattle.on_part.proofs.Serving.{each-below, begun}
 use Rattle.driver.specs.Driver.{carried, Told, sends, answers, Back, Driver, Turn, Starts, Steps, Sets, Asks, Seen, call, shown, Now, here, replied, outcome, tells, stays, goes, begins, scriptOf, starts, sets, setsIn, steps, scripts, OfBytes, Typed, Followed}
 use Rattle.driver.specs.ByValue.{toldBy, backOf, byValue, FollowedByValue}
@@ -178,7 +176,7 @@ module _ (s : Session) (now : Now) (b : List ℕ) (q : Agree s now b) (i : Idles
       ∙ ap (sets now (i .ending)) e
 
   here′ : (a : SetAnswer) → tried x (s .settings) ≡ a → setterOf x s ≡ setTo s a
-  here′ a e = setter-tried x s ∙ idle-setting s (tried x (s .settings)) (i .ended) ∙ ap (setTo s) e
+  here′ a e = idle-setting s (tried x (s .settings)) (i .ended) ∙ ap (setTo s) e
 
   idle-sets : SameAs s now b (Sets x)
   idle-sets = by (tried x (s .settings)) refl

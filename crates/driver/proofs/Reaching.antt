@@ -28,10 +28,8 @@ use Rattle.flash.specs.Starts.{unlessRuns, setTo, setting, fresh}
 use Rattle.meaning.specs.Meaning.{keptOf}
 use Rattle.rule.specs.Kept.{Whole}
 use Rattle.rule.proofs.Fits.{rule-meets}
-use Rattle.nor_model.specs.Demand3.{Possible}
-use Rattle.on_part.specs.Between.{tried}
+use Rattle.nor_model.specs.Demand3.{tried, Possible}
 use Rattle.on_part.proofs.Resting.{start-by}
-use Rattle.on_part.proofs.Rules.{setter-tried}
 use Rattle.on_part.proofs.Keeping.{demand3-by-value}
 use Rattle.driver.specs.Driver.{Driver, Turn, Starts, Steps, Sets, Asks, Stand, call, next, reached, first, Now, scripts, Typed}
 use Rattle.driver.specs.ByValue.{byValue}
@@ -98,7 +96,7 @@ setting-from s a h = by-cond From (isEnded (s .phase)) _ _ (λ t. set-from s a h
 call-from : (t : Turn) (s : Session) (b : List ℕ) → FromTable s → FromTable (call byValue t (record { held = s; buffer = b }) .held)
 call-from (Starts c buffer k) s b h = start-by s From (λ a. h) (λ p. told-from _ (record { read = h .read })) c (take k buffer)
 call-from (Steps f r k) s b h = step-from s f r (take k b) h
-call-from (Sets x) s b h = subst From (sym (setter-tried x s)) (setting-from s (tried x (s .settings)) h)
+call-from (Sets x) s b h = setting-from s (tried x (s .settings)) h
 call-from Asks s b h = told-from s h
 
 pub record Reached (s : Session) : Type 0 where

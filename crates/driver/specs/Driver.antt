@@ -19,8 +19,7 @@ use Rattle.commands.specs.Host.{Reply, failed, got, Outcome, Tree, ends, asks, 
 use Rattle.commands.specs.Wire.{wire}
 use Rattle.commands.specs.Calls.{Call, Program, ProgramData, script}
 use Rattle.commands.specs.Leaves.{refused, roomNeed}
-use Rattle.nor_model.specs.Demand3.{Setter, EraseOpcode, Capacity}
-use Rattle.on_part.specs.Between.{tried}
+use Rattle.nor_model.specs.Demand3.{Setter, EraseOpcode, Capacity, tried}
 
 -- ---- a driver
 -- a transaction as a host carries it out: the bytes that it sends, how many it reads then; whether it is a status poll; the µs to wait

@@ -33,10 +33,8 @@ use Rattle.rule.specs.Rule.{ruleOf}
 use Rattle.rule.specs.Kept.{Whole}
 use Rattle.rule.proofs.Whole.{keeps-whole}
 use Rattle.rule.proofs.Fits.{rule-fits}
-use Rattle.nor_model.specs.Demand3.{Setter}
+use Rattle.nor_model.specs.Demand3.{Setter, tried}
 use Rattle.on_part.specs.OnPart.{startOf, setterOf}
-use Rattle.on_part.specs.Between.{tried}
-use Rattle.on_part.proofs.Rules.{setter-tried}
 use Rattle.on_part.proofs.Resting.{isAnswer, told-rests, told-runs, told-ends}
 use Rattle.on_part.proofs.BetweenSteps.{ended-step, short-step, step-needs}
 use Rattle.on_part.proofs.BetweenStarts.{start-runs}
@@ -160,7 +158,7 @@ setting-says s (Set x) = by-cond Says (isEnded (s .phase)) _ _ (λ t. record { i
 setting-says s BadSetting = by-cond Says (isEnded (s .phase)) _ _ (λ t. record { is = refl }) (λ t. record { is = refl })
 
 set-says : (x : Setter) (s : Session) → setSaid (setterOf x s) ≡ inNumbers (toldBy (setterOf x s .event) [])
-set-says x s = subst Says (sym (setter-tried x s)) (setting-says s (tried x (s .settings))) .is
+set-says x s = setting-says s (tried x (s .settings)) .is
 
 -- what the driver by value hands back, packed and told in numbers
 abbrev packed : Back Session Answer → Back (List ℕ) Numbers

@@ -35,19 +35,23 @@ pub data Act : Type 0 where
   Command : Call → List ℕ → Times → Act
   Setting : Setter → Act
 
+-- whether a setter takes its argument: what crate settings says of it
+abbrev pub tried : Setter → Settings → SetAnswer
+tried (AddressBytes n) s = setAddressBytes s n
+tried (PageSize n) s = setPageSize s n
+tried (EraseSize n) s = setEraseSize s n
+tried (EraseOpcode n) s = Set (setEraseOpcode s n)
+tried (PollLimit n) s = setPollLimit s n
+tried (Capacity n) s = Set (setCapacity s n)
+tried NoCapacity s = Set (clearCapacity s)
+
 -- a refused setter changes nothing
 abbrev pub settled : Settings → SetAnswer → Settings
 settled s (Set t) = t
 settled s BadSetting = s
 
 abbrev pub setBy : Setter → Settings → Settings
-setBy (AddressBytes n) s = settled s (setAddressBytes s n)
-setBy (PageSize n) s = settled s (setPageSize s n)
-setBy (EraseSize n) s = settled s (setEraseSize s n)
-setBy (EraseOpcode n) s = setEraseOpcode s n
-setBy (PollLimit n) s = settled s (setPollLimit s n)
-setBy (Capacity n) s = setCapacity s n
-setBy NoCapacity s = clearCapacity s
+setBy x s = settled s (tried x s)
 
 -- ---- where a sequence stands: the part's state, what the driver keeps (each command is lent its own room), the accepted commands
 pub record Now : Type 0 where

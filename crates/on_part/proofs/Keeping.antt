@@ -4,7 +4,6 @@ use mathlib.Core.List.{List, [], _∷_}
 use Prim.Native.Nat.{ℕ, _<_}
 use Rattle.settings.specs.declared.SetAnswer.{SetAnswer}
 use Rattle.settings.specs.declared.SetAnswer.the-variants.{Set, BadSetting}
-use Rattle.settings.specs.Limits.{setAddressBytes, setPageSize, setEraseSize, setEraseOpcode, setPollLimit, setCapacity, clearCapacity}
 use Rattle.commands.specs.Calls.{Call}
 use Rattle.flash.specs.declared.Session.{Session}
 use Rattle.flash.specs.Starts.{unlessRuns, setting, withSettings}
@@ -12,7 +11,7 @@ use Rattle.meaning.specs.Meaning.{keptOf, Idle}
 use Rattle.nor_model.specs.Device.{Part}
 use Rattle.nor_model.specs.Replay.{replay}
 use Rattle.nor_model.specs.Runs.{Times, Ran}
-use Rattle.nor_model.specs.Demand3.{Setter, AddressBytes, PageSize, EraseSize, EraseOpcode, PollLimit, Capacity, NoCapacity, Act, Command, Setting, settled, setBy, ranTo, Assumed, Promised}
+use Rattle.nor_model.specs.Demand3.{Setter, Act, Command, Setting, tried, settled, setBy, ranTo, Assumed, Promised}
 use Rattle.nor_model.proofs.Sequences.{Stands, promised, command-stands, afterAll, stands}
 use Rattle.nor_model.proofs.Ended.{possible-roomed}
 use Rattle.on_part.specs.OnPart.{setterOf, ServedAs, Stand, nowOf, after, setIn, Kept as KeptBy, Keeps, Demand3ByValue}
@@ -28,13 +27,7 @@ set-session s i (Set t) = rw i
 set-session s i BadSetting = rw i
 
 pub setter-session : (x : Setter) (s : Session) → Idle s → setterOf x s .session ≡ withSettings s (setBy x (s .settings))
-setter-session (AddressBytes n) s i = set-session s i (setAddressBytes (s .settings) n)
-setter-session (PageSize n) s i = set-session s i (setPageSize (s .settings) n)
-setter-session (EraseSize n) s i = set-session s i (setEraseSize (s .settings) n)
-setter-session (EraseOpcode n) s i = set-session s i (Set (setEraseOpcode (s .settings) n))
-setter-session (PollLimit n) s i = set-session s i (setPollLimit (s .settings) n)
-setter-session (Capacity n) s i = set-session s i (Set (setCapacity (s .settings) n))
-setter-session NoCapacity s i = set-session s i (Set (clearCapacity (s .settings)))
+setter-session x s i = set-session s i (tried x (s .settings))
 
 -- ---- what holds between two acts: with any room, since each command is lent its own
 pub relent : (first : ℕ → ℕ) (x : Stand) (old room : List ℕ) → Stands first (nowOf x old) → Stands first (nowOf x room)

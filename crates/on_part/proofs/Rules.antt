@@ -23,35 +23,17 @@ use Rattle.phases.specs.Moves.{isEnded}
 use Rattle.flash.specs.Steps.{stepOf}
 use Rattle.flash.specs.Starts.{fresh, unlessRuns, setTo, setting, withSettings}
 use Rattle.meaning.specs.Meaning.{Idle}
-use Rattle.nor_model.specs.Demand3.{Setter, AddressBytes, PageSize, EraseSize, EraseOpcode, PollLimit, Capacity, NoCapacity, settled, setBy}
+use Rattle.nor_model.specs.Demand3.{Setter, tried, settled, setBy}
 use Rattle.on_part.specs.OnPart.{startOf, setterOf}
-use Rattle.on_part.specs.Between.{Runs, stays, tried, Needs, Between}
+use Rattle.on_part.specs.Between.{Runs, stays, Needs, Between}
 use Rattle.on_part.proofs.Resting.{isAnswer, start-rests}
 use Rattle.on_part.proofs.BetweenSteps.{ended-step, short-step, step-needs, step-repeats}
 use Rattle.on_part.proofs.BetweenStarts.{start-runs, start-given}
 
 -- ---- setters: each goes by what it tried
-pub setter-tried : (x : Setter) (s : Session) → setterOf x s ≡ setting s (tried x (s .settings))
-setter-tried (AddressBytes n) s = refl
-setter-tried (PageSize n) s = refl
-setter-tried (EraseSize n) s = refl
-setter-tried (EraseOpcode n) s = refl
-setter-tried (PollLimit n) s = refl
-setter-tried (Capacity n) s = refl
-setter-tried NoCapacity s = refl
-
-settings-tried : (x : Setter) (s : Settings) → setBy x s ≡ settled s (tried x s)
-settings-tried (AddressBytes n) s = refl
-settings-tried (PageSize n) s = refl
-settings-tried (EraseSize n) s = refl
-settings-tried (EraseOpcode n) s = refl
-settings-tried (PollLimit n) s = refl
-settings-tried (Capacity n) s = refl
-settings-tried NoCapacity s = refl
-
 pub setter-runs : (x : Setter) (s : Session) → Runs s → setterOf x s ≡ record { session = s; event = Answered BadSession 0 }
 unfolding setting unlessRuns
-setter-runs x s h = setter-tried x s ∙ rw h
+setter-runs x s h = rw h
 
 pub idle-setting : (s : Session) (a : SetAnswer) → Idle s → setting s a ≡ setTo s a
 unfolding setting unlessRuns
@@ -59,13 +41,13 @@ idle-setting s a i = rw i
 
 module _ (x : Setter) (s : Session) (i : Idle s) where
   setter-refused : tried x (s .settings) ≡ Refused → setterOf x s ≡ record { session = s; event = Answered BadSetting 0 }
-  setter-refused e = setter-tried x s ∙ idle-setting s (tried x (s .settings)) i ∙ ap (setTo s) e
+  setter-refused e = idle-setting s (tried x (s .settings)) i ∙ ap (setTo s) e
 
   setter-taken : (new : Settings) → tried x (s .settings) ≡ Set new
       → setterOf x s ≡ record { session = withSettings s (setBy x (s .settings)); event = Answered Done 0 }
   setter-taken new e =
-      let q : setBy x (s .settings) ≡ new = settings-tried x (s .settings) ∙ ap (settled (s .settings)) e in
-      setter-tried x s ∙ idle-setting s (tried x (s .settings)) i ∙ ap (setTo s) e
+      let q : setBy x (s .settings) ≡ new = ap (settled (s .settings)) e in
+      idle-setting s (tried x (s .settings)) i ∙ ap (setTo s) e
       ∙ ap (λ (z : Settings). record { session = withSettings s z; event = Answered Done 0 }) (sym q)
 
 -- ---- an ended command

@@ -6,9 +6,7 @@ use mathlib.Core.List.{List}
 use Prim.Native.Nat.{ℕ, _<_}
 use lib.ListN.{length}
 use Rattle.settings.specs.declared.Settings.{Settings}
-use Rattle.settings.specs.declared.SetAnswer.{SetAnswer}
 use Rattle.settings.specs.declared.SetAnswer.the-variants.{Set, BadSetting as Refused}
-use Rattle.settings.specs.Limits.{setAddressBytes, setPageSize, setEraseSize, setEraseOpcode, setPollLimit, setCapacity, clearCapacity}
 use Rattle.commands.specs.declared.Answer.{Answer}
 use Rattle.commands.specs.declared.Answer.the-variants.{Done, BadSetting, NoRoom, BadSession}
 use Rattle.commands.specs.Calls.{Call}
@@ -21,7 +19,7 @@ use Rattle.flash.specs.Steps.{Taken, counted, stepOf}
 use Rattle.phases.specs.Moves.{isEnded}
 use Rattle.flash.specs.Starts.{fresh}
 use Rattle.meaning.specs.Meaning.{keptOf, Idle}
-use Rattle.nor_model.specs.Demand3.{Setter, AddressBytes, PageSize, EraseSize, EraseOpcode, PollLimit, Capacity, NoCapacity, setBy}
+use Rattle.nor_model.specs.Demand3.{Setter, tried, setBy}
 use Rattle.on_part.specs.OnPart.{startOf, setterOf}
 
 -- a command runs
@@ -31,16 +29,6 @@ Runs s = isEnded (s .phase) ≡ false
 -- nothing is changed, and this is answered
 abbrev pub stays : Session → List ℕ → Answer → ℕ → Taken
 stays s room a n = record { out = record { session = s; event = Answered a n }; room = room }
-
--- whether a setter takes its argument: what crate settings says of it
-abbrev pub tried : Setter → Settings → SetAnswer
-tried (AddressBytes n) x = setAddressBytes x n
-tried (PageSize n) x = setPageSize x n
-tried (EraseSize n) x = setEraseSize x n
-tried (EraseOpcode n) x = Set (setEraseOpcode x n)
-tried (PollLimit n) x = setPollLimit x n
-tried (Capacity n) x = Set (setCapacity x n)
-tried NoCapacity x = Set (clearCapacity x)
 
 -- the room that a command needs is one number for all its steps
 pub record Needs : Type 0 where

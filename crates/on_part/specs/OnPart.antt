@@ -5,8 +5,6 @@ use mathlib.Core.List.{List, [], _∷_, _++_}
 use mathlib.Core.Option.{Option, some, none}
 use Prim.Native.Nat.{ℕ, zero, suc, _<_}
 use lib.ListN.{length}
-use Rattle.settings.specs.declared.SetAnswer.the-variants.{Set}
-use Rattle.settings.specs.Limits.{setAddressBytes, setPageSize, setEraseSize, setEraseOpcode, setPollLimit, setCapacity, clearCapacity}
 use Rattle.commands.specs.declared.Answer.{Answer}
 use Rattle.commands.specs.Script.{Sent}
 use Rattle.commands.specs.Wire.{wire}
@@ -21,7 +19,7 @@ use Rattle.flash.specs.Starts.{startRead, startReadParams, startErase, startEra
 use Rattle.meaning.specs.Meaning.{keptOf, sentOf, Idle}
 use Rattle.nor_model.specs.Device.{Part, State}
 use Rattle.nor_model.specs.Runs.{Times, Ran, replied, exec}
-use Rattle.nor_model.specs.Demand3.{Setter, AddressBytes, PageSize, EraseSize, EraseOpcode, PollLimit, Capacity, NoCapacity, Act, Command, Setting, Now, Possible, Assumed, Promised}
+use Rattle.nor_model.specs.Demand3.{Setter, tried, Act, Command, Setting, Now, Possible, Assumed, Promised}
 
 -- ---- the driver: what each function's contract says that it returns
 -- a command's start: what it hands back, and the lent room then. (The commands without data leave the room as it is)
@@ -39,13 +37,7 @@ startOf IsBusy s room = record { out = startIsBusy s; room = room }
 startOf IsProtected s room = record { out = startIsProtected s; room = room }
 
 abbrev pub setterOf : Setter → Session → Stepped
-setterOf (AddressBytes n) s = setting s (setAddressBytes (s .settings) n)
-setterOf (PageSize n) s = setting s (setPageSize (s .settings) n)
-setterOf (EraseSize n) s = setting s (setEraseSize (s .settings) n)
-setterOf (EraseOpcode n) s = setting s (Set (setEraseOpcode (s .settings) n))
-setterOf (PollLimit n) s = setting s (setPollLimit (s .settings) n)
-setterOf (Capacity n) s = setting s (Set (setCapacity (s .settings) n))
-setterOf NoCapacity s = setting s (Set (clearCapacity (s .settings)))
+setterOf x s = setting s (tried x (s .settings))
 
 -- ---- the host, with the part before it
 -- where a command has come to its answer: the session, the lent room, the answer with its polls, the part's state, the transactions
