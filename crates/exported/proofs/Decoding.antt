@@ -37,13 +37,13 @@ over-next (suc k) (x ∷ front) new l h =
     ap (λ (n : ℕ). x ∷ (take k (front ++ l) ++ (new ++ drop n (x ∷ (front ++ l))))) e
     ∙ ap (λ (m : List ℕ). x ∷ m) (over-next k front new l (omega (arith, h)))
 
-laid-next : (k : ℕ) (front new l : List ℕ) → length front ≡ k → length new ≤ length l → laid k new (front ++ l) ≡ front ++ (new ++ drop (length new) l)
+pub laid-next : (k : ℕ) (front new l : List ℕ) → length front ≡ k → length new ≤ length l → laid k new (front ++ l) ≡ front ++ (new ++ drop (length new) l)
 unfolding laid over
 laid-next k front new l h g =
     let fits : k + length new ≤ length (front ++ l) = omega (arith, h, g, length-append front l) in
     rw (le-leb (k + length new) (length (front ++ l)) fits) (over-next k front new l h)
 
-shorter : (k n : ℕ) (l : List ℕ) → k + n ≤ length l → n ≤ length (drop k l)
+pub shorter : (k n : ℕ) (l : List ℕ) → k + n ≤ length l → n ≤ length (drop k l)
 shorter k n l h = omega (arith, h, length-drop k l)
 
 -- the numbers, before any bytes
@@ -99,7 +99,7 @@ high-of : (x y : ℕ) → x < 256 → (x + 256 * y) / 256 ≡ y
 high-of x y h = omega arith
 
 -- eight bytes from the number that they make
-digits : (a b c d e f g i : ℕ) → a < 256 → b < 256 → c < 256 → d < 256 → e < 256 → f < 256 → g < 256 → i < 256
+pub digits : (a b c d e f g i : ℕ) → a < 256 → b < 256 → c < 256 → d < 256 → e < 256 → f < 256 → g < 256 → i < 256
     → le8 (a + 256 * (b + 256 * (c + 256 * (d + 256 * (e + 256 * (f + 256 * (g + 256 * i))))))) ≡ a ∷ b ∷ c ∷ d ∷ e ∷ f ∷ g ∷ i ∷ []
 digits a b c d e f g i ha hb hc hd he hf hg hi =
     let r6 = g + 256 * i in
@@ -127,10 +127,10 @@ digits a b c d e f g i ha hb hc hd he hf hg hi =
     )
 
 -- a number from its eight bytes
-fold : (x m : ℕ) → 0 < m → x % 256 + 256 * (x / 256 % m) ≡ x % (m * 256)
+pub fold : (x m : ℕ) → 0 < m → x % 256 + 256 * (x / 256 % m) ≡ x % (m * 256)
 fold x m h = let e : x % (m * 256) ≡ (x / 256 % m) * 256 + x % 256 = mod-mul x h (omega arith) in omega (arith, e)
 
-low-8 : (x : ℕ) → lowFirst (le8 x) ≡ x % 2 ^ 64
+pub low-8 : (x : ℕ) → lowFirst (le8 x) ≡ x % 2 ^ 64
 unfolding lowFirst
 low-8 x =
     let x1 = x / 256 in
@@ -156,7 +156,7 @@ low-8 x =
     ∙ ap (λ (z : ℕ). x % 256 + 256 * z) e1
     ∙ fold x (2 ^ 56) (omega arith)
 
-exact-8 : (x : ℕ) → x < 2 ^ 64 → lowFirst (le8 x) ≡ x
+pub exact-8 : (x : ℕ) → x < 2 ^ 64 → lowFirst (le8 x) ≡ x
 exact-8 x h = low-8 x ∙ mod-eq-of-lt h
 
 -- ---- an answer

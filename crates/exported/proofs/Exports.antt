@@ -45,10 +45,10 @@ use Rattle.moss_flash.specs.declared.Opened.{Opened}
 use Rattle.moss_flash.specs.declared.Opened.the-variants.{Open, Refused}
 use Rattle.moss_flash.specs.Records.{numberA, numberB, eventOver}
 use Rattle.moss_flash.specs.Calls.{Called, called, took, unpackOf, openedOf, openedStart, opening, starting, numberIn, newOf, setCalled}
-use Rattle.driver.specs.Driver.{Told, sends, answers, Back, Driver, Turn, Starts, Steps, Sets, Asks, Seen, call, sees, shown, first, Now, scripts, OfBytes, Typed}
+use Rattle.driver.specs.Driver.{Told, sends, answers, Back, Driver, Turn, Starts, Steps, Sets, Asks, Seen, Stand, call, next, reached, sees, shown, first, Now, scripts, OfBytes, Typed}
 use Rattle.driver.specs.ByValue.{toldBy, backOf, byValue}
 use Rattle.driver.proofs.Splitting.{waits-within}
-use Rattle.driver.proofs.Simulating.{Shows, Same, same-by, later, later-same, simulated}
+use Rattle.driver.proofs.Simulating.{Shows, Same, same-by, later, next-is, later-same, simulated}
 use Rattle.driver.proofs.Rooms.{take-bytes}
 use Rattle.driver.proofs.Agreeing.{Agree, Idles, Waits, SameAs, plainly, turns, at-first, followed-by-value, step-long, given-enough, given-told, of-bytes, start-whole, set-whole, told-session}
 use Rattle.exported.specs.Exports.{Numbers, toldIn, inNumbers, backIn, exports, FollowedByExports}
@@ -56,7 +56,7 @@ use Rattle.exported.proofs.Widths.{Fine, waits-fine}
 use Rattle.exported.proofs.Decoding.{decodes}
 
 -- ---- the bytes of a whole session hold it
-unpacks : (s : Session) → Whole s → unpackOf (bytesOf s) ≡ Held s
+pub unpacks : (s : Session) → Whole s → unpackOf (bytesOf s) ≡ Held s
 unfolding unpackOf
 unpacks s h =
     let back : sessionIn (bytesOf s) ≡ s = way-back s (h .typed) in
@@ -222,9 +222,29 @@ module _ (e : List ℕ) (long : 64 ≤ length e) where
     answering = λ x n. refl;
   }
 
-  new-packs : Packs (exports e .fresh) fresh []
+  pub new-packs : Packs (exports e .fresh) fresh []
   unfolding newOf
   new-packs = record { now = scripts .fresh; is = refl; agrees = at-first }
+
+  -- what is reached, packed
+  pub reaches : (ts : List Turn) → Each Typed ts → (b : List ℕ) (s : Session) (buffer : List ℕ) → Packs b s buffer
+      → (reached (exports e) ts (record { held = b; buffer = buffer }) .held ≡ bytesOf (reached byValue ts (record { held = s; buffer = buffer }) .held))
+      × Whole (reached byValue ts (record { held = s; buffer = buffer }) .held)
+  unfolding reached
+  reaches [] h b s buffer p = (p .is, p .agrees .whole)
+  reaches (t ∷ ts) h b s buffer p =
+      let g : Same (exports e) byValue inNumbers Packs b s buffer t = turn b s buffer t (h .0) p in
+      subst
+      (λ (x : Stand (exports e)). (reached (exports e) ts x .held ≡ bytesOf (reached byValue ts (next byValue t (record { held = s; buffer = buffer })) .held))
+      × Whole (reached byValue ts (next byValue t (record { held = s; buffer = buffer })) .held))
+      (sym (next-is (exports e) t b buffer
+      ∙ ap (λ (l : List ℕ). record { held = call (exports e) t (record { held = b; buffer = buffer }) .held; buffer = l })
+      (later-same (exports e) byValue inNumbers Packs showing turn t (call (exports e) t (record { held = b; buffer = buffer })) (call byValue t (record { held = s; buffer = buffer })) buffer (g .told) (g .room))))
+      (subst
+      (λ (x : Stand byValue). (reached (exports e) ts (record { held = call (exports e) t (record { held = b; buffer = buffer }) .held; buffer = later t (call byValue t (record { held = s; buffer = buffer })) buffer }) .held ≡ bytesOf (reached byValue ts x .held))
+      × Whole (reached byValue ts x .held))
+      (sym (next-is byValue t s buffer))
+      (reaches ts (h .1) (call (exports e) t (record { held = b; buffer = buffer }) .held) (call byValue t (record { held = s; buffer = buffer }) .held) (later t (call byValue t (record { held = s; buffer = buffer })) buffer) (g .again)))
 
   seen-through : (ts : List Turn) → Each Typed ts → sees (exports e) ts (first (exports e)) ≡ shown inNumbers (sees byValue ts (first byValue))
   seen-through ts h = simulated (exports e) byValue inNumbers Packs showing turn ts h (exports e .fresh) fresh [] new-packs

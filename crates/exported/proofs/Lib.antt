@@ -2,3 +2,4 @@ pub mod Same
 pub mod Decoding
 pub mod Widths
 pub mod Exports
+pub mod Settings
