@@ -8,7 +8,8 @@ use native.Mathlib.Omega.{arith}
 use borrow.Author.Tests.{lt-ltb, le-ltb, eq-eqb, ne-eqb}
 use Rattle.erase_plan.specs.declared.EraseType.{EraseType}
 use Rattle.erase_plan.specs.Plan.{cover, beats, chosenFrom, chosen}
-use Rattle.erase_plan.specs.Good.{Each, Present, Worse, NoBetter, Taken}
+use Rattle.erase_plan.specs.Words.{Each}
+use Rattle.erase_plan.specs.Good.{Present, Worse, NoBetter, Taken}
 use Rattle.erase_plan.proofs.Lists.{lt-or-le, by-cond, no-true, no-false, each-append, each-map, each-inside}
 use Rattle.erase_plan.proofs.Multiples.{end-gt}
 

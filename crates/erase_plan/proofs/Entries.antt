@@ -14,7 +14,8 @@ use Rattle.erase_plan.specs.declared.Next.{Next}
 use Rattle.erase_plan.specs.declared.Next.the-variants.{Nothing, Entry}
 use Rattle.erase_plan.specs.Types.{kept}
 use Rattle.erase_plan.specs.Plan.{blockBase, cover, beats, chosen, entryFrom, entryAt, nextPos, nextOf}
-use Rattle.erase_plan.specs.Good.{Each, Present}
+use Rattle.erase_plan.specs.Words.{Each}
+use Rattle.erase_plan.specs.Good.{Present}
 use Rattle.erase_plan.proofs.Lists.{lt-or-le, either}
 use Rattle.erase_plan.proofs.Multiples.{end-base, base-mod}
 use Rattle.erase_plan.proofs.Ordering.{kept-none, kept-one}

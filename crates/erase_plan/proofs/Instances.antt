@@ -7,7 +7,8 @@ use native.Mathlib.Omega.{arith}
 use Rattle.erase_plan.specs.declared.SpanCheck.the-variants.{Fits}
 use Rattle.erase_plan.specs.Plan.{blockBase, blockEnd, cover, beats, chosenFrom, chosen, entryAt, nextPos, planIn, plan}
 use Rattle.erase_plan.specs.Span.{spanStart, spanEnd, spanCheck, sectorsCheck}
-use Rattle.erase_plan.specs.Good.{Each, Kinds, Power, Good}
+use Rattle.erase_plan.specs.Words.{Each}
+use Rattle.erase_plan.specs.Good.{Kinds, Power, Good}
 use Rattle.erase_plan.proofs.Planned.{plan-good, single-kinds, power-kinds}
 use Rattle.erase_plan.proofs.Spans.{sectors-exact}
 use Rattle.erase_plan.proofs.Examples.{untimed, small, sectors}

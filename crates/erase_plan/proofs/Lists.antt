@@ -7,7 +7,7 @@ use Prim.Native.Nat.{ℕ, _≤_, _<_}
 use native.Mathlib.Omega.{arith}
 use lib.Dec.{ltb}
 use borrow.Author.Tests.{ltb-true, ltb-false}
-use Rattle.erase_plan.specs.Good.{Each}
+use Rattle.erase_plan.specs.Words.{Each}
 
 -- two numbers stand in one order or the other
 pub lt-or-le : (a b : ℕ) → (a < b) ⊎ (b ≤ a)

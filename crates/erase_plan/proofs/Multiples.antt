@@ -5,7 +5,7 @@ use native.Mathlib.Nat.{div-mul-le-self, lt-div-mul-add, div-lt-iff-lt-mul, mul-
 use native.Mathlib.Omega.{arith}
 use lib.Pow.{pow-add}
 use Rattle.erase_plan.specs.Plan.{blockBase, blockEnd}
-use Rattle.erase_plan.specs.Good.{Mult}
+use Rattle.erase_plan.specs.Words.{Mult}
 
 -- a block's base and end are multiples of its size
 pub base-mult : (s p : ℕ) → Mult s (blockBase s p)

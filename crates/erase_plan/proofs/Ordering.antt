@@ -11,7 +11,8 @@ use borrow.Author.Tests.{eq-eqb, ne-eqb, eqb-false, lt-ltb, le-ltb, le-leb, lt-l
 use Rattle.erase_plan.specs.declared.EraseType.{EraseType}
 use Rattle.erase_plan.specs.declared.EraseTypes.{EraseTypes}
 use Rattle.erase_plan.specs.Types.{kept, present, timeRank, inOrder, insert, sort}
-use Rattle.erase_plan.specs.Good.{Each, Present, Sorted, howMany}
+use Rattle.erase_plan.specs.Words.{Each}
+use Rattle.erase_plan.specs.Good.{Present, Sorted, howMany}
 use Rattle.erase_plan.proofs.Lists.{lt-or-le, by-cond, no-true, each-append, each-map}
 
 -- ---- a slot is empty or holds a type

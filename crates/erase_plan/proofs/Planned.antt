@@ -10,7 +10,8 @@ use Rattle.erase_plan.specs.declared.EraseType.{EraseType}
 use Rattle.erase_plan.specs.declared.EraseEntry.{EraseEntry}
 use Rattle.erase_plan.specs.Plan.{blockEnd, cover, chosen, entryAt, nextPos, planIn, plan}
 use Rattle.erase_plan.specs.Span.{endOf, spanStart, spanEnd}
-use Rattle.erase_plan.specs.Good.{Each, Present, Mult, Divides, Has, Kinds, Power, Aligned, Holds, Meets, Inside, Follows, Covers, Good}
+use Rattle.erase_plan.specs.Words.{Each, Mult}
+use Rattle.erase_plan.specs.Good.{Present, Divides, Has, Kinds, Power, Aligned, Holds, Meets, Inside, Follows, Covers, Good}
 use Rattle.erase_plan.proofs.Lists.{lt-or-le, each-map}
 use Rattle.erase_plan.proofs.Multiples.{base-mult, end-mult, end-base, base-le, end-gt, mult-trans, end-mono, base-self, mult-self, mult-le, pow-mult}
 use Rattle.erase_plan.proofs.Choice.{chosen-each, chosen-most}

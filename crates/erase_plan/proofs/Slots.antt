@@ -10,7 +10,8 @@ use borrow.Author.Tests.{ne-eqb}
 use Rattle.erase_plan.specs.declared.EraseType.{EraseType}
 use Rattle.erase_plan.specs.declared.EraseTypes.{EraseTypes}
 use Rattle.erase_plan.specs.Types.{noType, kept, present, inOrder, insert, sort, slots, fourOf, sortedOf}
-use Rattle.erase_plan.specs.Good.{Each, Present}
+use Rattle.erase_plan.specs.Words.{Each}
+use Rattle.erase_plan.specs.Good.{Present}
 use Rattle.erase_plan.proofs.Lists.{by-cond, no-false}
 use Rattle.erase_plan.proofs.Ordering.{kept-none, kept-one, present-present, sort-each, sort-length}
 

@@ -10,7 +10,8 @@ use Rattle.erase_plan.specs.declared.EraseEntry.{EraseEntry}
 use Rattle.erase_plan.specs.declared.Next.{Next}
 use Rattle.erase_plan.specs.declared.Next.the-variants.{Nothing, Entry}
 use Rattle.erase_plan.specs.Plan.{chosen, entryAt, nextPos, planIn, plan, nextOf}
-use Rattle.erase_plan.specs.Good.{Each, Present}
+use Rattle.erase_plan.specs.Words.{Each}
+use Rattle.erase_plan.specs.Good.{Present}
 use Rattle.erase_plan.proofs.Lists.{lt-or-le}
 use Rattle.erase_plan.proofs.Choice.{cover-some, cover-le, chosen-each}
 

@@ -12,7 +12,8 @@ use Rattle.erase_plan.specs.declared.Walk.{Walk}
 use Rattle.erase_plan.specs.declared.Next.the-variants.{Nothing, Entry}
 use Rattle.erase_plan.specs.Plan.{nextOf, plan}
 use Rattle.erase_plan.specs.Span.{endOf, spanStart, spanEnd, surveyOf}
-use Rattle.erase_plan.specs.Good.{Each, Present}
+use Rattle.erase_plan.specs.Words.{Each}
+use Rattle.erase_plan.specs.Good.{Present}
 use Rattle.erase_plan.specs.Passing.{Passed, walkOver}
 use Rattle.erase_plan.proofs.Lists.{by-cond, no-true}
 use Rattle.erase_plan.proofs.Steps.{plan-nothing, plan-entry, plan-done}

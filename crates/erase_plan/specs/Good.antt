@@ -3,18 +3,14 @@ use mathlib.Core.Path.{_≡_}
 use mathlib.Core.Bool.{Bool, true, cond}
 use mathlib.Core.Logic.{_⊎_}
 use mathlib.Core.List.{List, [], _∷_, _++_}
-use Prim.Native.Nat.{ℕ, _+_, _-_, _*_, _^_, _≤_, _<_}
+use Prim.Native.Nat.{ℕ, _+_, _-_, _^_, _≤_, _<_}
 use lib.ListN.{length}
 use Rattle.erase_plan.specs.declared.EraseType.{EraseType}
 use Rattle.erase_plan.specs.declared.EraseEntry.{EraseEntry}
 use Rattle.erase_plan.specs.Types.{inOrder}
 use Rattle.erase_plan.specs.Plan.{cover}
 use Rattle.erase_plan.specs.Span.{endOf, spanStart, spanEnd}
-
--- a property of each element of a list
-abbrev pub Each : {A : Type 0} → (A → Type 0) → List A → Type 0
-Each P [] = Unit {0}
-Each P (x ∷ xs) = P x × Each P xs
+pub use Rattle.erase_plan.specs.Words.{Each, Mult}
 
 -- a slot that holds a type
 abbrev pub Present : EraseType → Type 0
@@ -29,11 +25,6 @@ Sorted (t ∷ ts) = Each (λ (u : EraseType). inOrder t u ≡ true) ts × Sorted
 unfoldable pub howMany : (EraseType → Bool) → List EraseType → ℕ
 howMany f [] = 0
 howMany f (t ∷ ts) = cond (f t) 1 0 + howMany f ts
-
--- n is a multiple of s
-pub record Mult (s n : ℕ) : Type 0 where
-  pub q : ℕ
-  pub is : n ≡ q * s
 
 -- The types that the laws of a plan ask for: each size is positive and a divisor of L, and L is one of the sizes. Sizes that are
 -- powers of two are so, and a single size is.

@@ -1,3 +1,4 @@
+pub mod Words
 pub mod Types
 pub mod Plan
 pub mod Span

@@ -7,7 +7,8 @@ ghost use lib.Dec.{eqb};
 ghost use Rattle.erase_plan.specs.Types.{fourOf, inOrder, kept, present, slots, sort, sortedOf, timeRank};
 ghost use Rattle.erase_plan.specs.Plan.{entryFrom, nextOf, plan};
 ghost use Rattle.erase_plan.specs.Span.{spanCheck, surveyOf};
-ghost use Rattle.erase_plan.specs.Good.{Each, Present};
+ghost use Rattle.erase_plan.specs.Words.{Each};
+ghost use Rattle.erase_plan.specs.Good.{Present};
 ghost use Rattle.erase_plan.specs.Passing.{Passed, walkOver};
 
 // One available erase type. size 0: no such type. timed: whether the typical time is known; time is 0 where it is not.

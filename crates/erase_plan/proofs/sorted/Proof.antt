@@ -2,7 +2,8 @@
 use mathlib.Core.Path.{sym, _∙_}
 use mathlib.Core.List.{[], _++_}
 use Rattle.erase_plan.specs.Types.{kept}
-use Rattle.erase_plan.specs.Good.{Each, Present}
+use Rattle.erase_plan.specs.Words.{Each}
+use Rattle.erase_plan.specs.Good.{Present}
 use Rattle.erase_plan.proofs.Lists.{each-append}
 use Rattle.erase_plan.proofs.Ordering.{kept-present}
 use Rattle.erase_plan.proofs.Slots.{slots-none, sorted-puts}
