@@ -190,23 +190,26 @@ fn fold_entry(e: EraseEntry) -> u64 {
     )
 }
 
-// A walk along a plan: whether it goes on, from where, and the entries so far, folded.
+// A walk along a plan: whether it goes on, from where, whether that is known to be a multiple of every size, and the entries so far, folded.
 pub struct Walk {
     pub going: bool,
     pub at: u32,
+    pub later: bool,
     pub folded: u64,
 }
 
 fn turn(ts: EraseTypes, last: u32, w: Walk) -> Walk {
-    match erase_plan::next_entry(ts, w.at, last) {
+    match erase_plan::entry_at(ts, w.later, w.at, last) {
         Next::Nothing => Walk {
             going: false,
             at: w.at,
+            later: false,
             folded: w.folded,
         },
         Next::Entry { entry, stop } => Walk {
             going: stop != last,
             at: std::num::wrapping_add_u32(stop, 1),
+            later: erase_plan::later_next(ts, w.later),
             folded: sum(w.folded, fold_entry(entry)),
         },
     }
@@ -216,6 +219,7 @@ fn walked(ts: EraseTypes, at: u32, last: u32) -> u64 {
     let mut w = Walk {
         going: true,
         at: at,
+        later: false,
         folded: 0,
     };
     let mut turns: u64 = 0x1_0000_0000;

@@ -3,9 +3,8 @@ use mathlib.Core.Path.{_≡_, refl, sym, ap, _∙_}
 use mathlib.Core.Bool.{true, false}
 use mathlib.Core.Logic.{⊎-elim}
 use mathlib.Core.List.{List, [], _∷_, _++_, append-nil}
-use Prim.Native.Nat.{ℕ, _+_, _-_, _%_, _≤_, _<_}
+use Prim.Native.Nat.{ℕ, _+_, _-_, _≤_, _<_}
 use native.Mathlib.Omega.{arith}
-use native.Mathlib.Nat.{mod-lt, mod-le}
 use lib.Dec.{eqb}
 use borrow.Author.Tests.{eqb-true, eqb-false}
 use Rattle.erase_plan.specs.declared.EraseType.{EraseType}
@@ -17,7 +16,7 @@ use Rattle.erase_plan.specs.Plan.{blockBase, cover, beats, chosen, entry
 use Rattle.erase_plan.specs.Words.{Each}
 use Rattle.erase_plan.specs.Good.{Present}
 use Rattle.erase_plan.proofs.Lists.{lt-or-le, either}
-use Rattle.erase_plan.proofs.Multiples.{end-base, base-mod}
+use Rattle.erase_plan.proofs.Multiples.{end-base, base-le, end-gt}
 use Rattle.erase_plan.proofs.Ordering.{kept-none, kept-one}
 use Rattle.erase_plan.proofs.Choice.{cover-some, beats-more, beats-less, beats-small, beats-tie, chosen-each, chosen-append, chosen-one}
 use Rattle.erase_plan.proofs.Steps.{Found, found, not-both, next-some, next-done, next-none}
@@ -44,26 +43,25 @@ module _ (t : EraseType) (pos last : ℕ) (z : t .size ≡ 0 → ⊥) (h : pos �
       let l : pos < last + 1 = omega arith in
       rw (kept-one t z) (next-takes t [] pos (last + 1) l ∙ ap (λ (x : EraseType). takes x pos (last + 1)) (chosen-one pos (last + 1) t))
 
-  one-entry : (e : EraseEntry) (stop : ℕ) → e ≡ entryFrom t (pos - pos % t .size) → stop ≡ pos + cover t pos (last + 1) - 1
-      → Entry e stop ≡ nextOf (kept t) pos (last + 1)
-  unfolding takes
-  one-entry e stop p q = rw (p, q, ← base-mod (t .size) pos) (sym one-takes)
+  -- with the base of the aligned block
+  module _ (b : ℕ) (e : EraseEntry) (p : b ≡ blockBase (t .size) pos) (q : e ≡ entryFrom t b) where
+    one-entry : (stop : ℕ) → stop ≡ pos + cover t pos (last + 1) - 1 → Entry e stop ≡ nextOf (kept t) pos (last + 1)
+    unfolding takes
+    one-entry stop r = rw (q, p, r) (sym one-takes)
 
-  -- its block ends in the range
-  pub one-inside : (e : EraseEntry) → e ≡ entryFrom t (pos - pos % t .size) → pos - pos % t .size + (t .size - 1) < last
-      → Entry e (pos - pos % t .size + (t .size - 1)) ≡ nextOf (kept t) pos (last + 1)
-  unfolding cover
-  one-inside e p k =
-      let n : 0 < t .size = omega (arith, z) in
-      one-entry e (pos - pos % t .size + (t .size - 1)) p (omega (arith, end-base (t .size) pos, base-mod (t .size) pos, mod-lt pos n, mod-le pos (t .size)))
+    -- its block ends in the range
+    pub one-inside : b + (t .size - 1) < last → Entry e (b + (t .size - 1)) ≡ nextOf (kept t) pos (last + 1)
+    unfolding cover
+    one-inside k =
+        let n : 0 < t .size = omega (arith, z) in
+        one-entry (b + (t .size - 1)) (omega (arith, end-base (t .size) pos, base-le (t .size) pos, end-gt (t .size) pos n))
 
-  -- its block reaches the end of the range, or past it
-  pub one-past : (e : EraseEntry) → e ≡ entryFrom t (pos - pos % t .size) → last ≤ pos - pos % t .size + (t .size - 1)
-      → Entry e last ≡ nextOf (kept t) pos (last + 1)
-  unfolding cover
-  one-past e p k =
-      let n : 0 < t .size = omega (arith, z) in
-      one-entry e last p (omega (arith, end-base (t .size) pos, base-mod (t .size) pos, mod-lt pos n, mod-le pos (t .size)))
+    -- its block reaches the end of the range, or past it
+    pub one-past : last ≤ b + (t .size - 1) → Entry e last ≡ nextOf (kept t) pos (last + 1)
+    unfolding cover
+    one-past k =
+        let n : 0 < t .size = omega (arith, z) in
+        one-entry last (omega (arith, end-base (t .size) pos, base-le (t .size) pos, end-gt (t .size) pos n))
 
 -- ---- the better of an entry of earlier types and of one more type
 pub left-none : (ts : List EraseType) (u : EraseType) (pos end : ℕ) → nextOf ts pos end ≡ Nothing → nextOf (kept u) pos end ≡ nextOf (ts ++ kept u) pos end

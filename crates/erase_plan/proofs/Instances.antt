@@ -8,8 +8,10 @@ use Rattle.erase_plan.specs.declared.SpanCheck.the-variants.{Fits}
 use Rattle.erase_plan.specs.Plan.{blockBase, blockEnd, cover, beats, chosenFrom, chosen, entryAt, nextPos, planIn, plan}
 use Rattle.erase_plan.specs.Span.{spanStart, spanEnd, spanCheck, sectorsCheck}
 use Rattle.erase_plan.specs.Words.{Each}
-use Rattle.erase_plan.specs.Good.{Kinds, Power, Good}
+use Rattle.erase_plan.specs.Good.{Kinds, Good}
+use Rattle.erase_plan.specs.Later.{Power, InPlace, afterFirst}
 use Rattle.erase_plan.proofs.Planned.{plan-good, single-kinds, power-kinds}
+use Rattle.erase_plan.proofs.Places.{later-in-place}
 use Rattle.erase_plan.proofs.Spans.{sectors-exact}
 use Rattle.erase_plan.proofs.Examples.{untimed, small, sectors}
 
@@ -37,6 +39,13 @@ small-kinds = power-kinds small (omega arith) small-powers
 -- a single size that is no power of two
 pub odd-good : Good 3 4 8 (plan (untimed 3 1 ∷ []) 4 8)
 odd-good = plan-good 3 (untimed 3 1 ∷ []) (single-kinds (untimed 3 1) (omega arith)) 4 8 (omega arith)
+
+-- the later entries of a plan of three powers of two, and of one of a single size
+pub small-in-place : InPlace small (nextPos small 8 200) 200 (afterFirst (plan small 8 200))
+small-in-place = later-in-place small (inl small-powers) 8 200
+
+pub odd-in-place : let ts = untimed 3 1 ∷ [] in InPlace ts (nextPos ts 4 20) 20 (afterFirst (plan ts 4 20))
+odd-in-place = later-in-place (untimed 3 1 ∷ []) (inr (omega arith)) 4 20
 
 -- a whole block is accepted by `erase_sectors`
 pub block-accepted : sectorsCheck sectors 0 65536 ≡ Fits

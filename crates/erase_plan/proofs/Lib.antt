@@ -6,6 +6,7 @@ pub mod Choice
 pub mod Steps
 pub mod Entries
 pub mod Planned
+pub mod Places
 pub mod Walks
 pub mod Spans
 pub mod Examples

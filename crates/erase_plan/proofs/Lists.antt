@@ -39,6 +39,10 @@ module _ {A : Type 0} (P : A → Type 0) where
   each-append [] ys p q = q
   each-append (x ∷ xs) ys p q = (p .0, each-append xs ys (p .1) q)
 
+  pub each-split : (xs ys : List A) → Each P (xs ++ ys) → Each P xs × Each P ys
+  each-split [] ys p = (tt, p)
+  each-split (x ∷ xs) ys p = let r = each-split xs ys (p .1) in ((p .0, r .0), r .1)
+
   pub each-map : (Q : A → Type 0) → ((x : A) → P x → Q x) → (xs : List A) → Each P xs → Each Q xs
   each-map Q f [] p = tt
   each-map Q f (x ∷ xs) p = (f x (p .0), each-map Q f xs (p .1))

@@ -11,7 +11,8 @@ use Rattle.erase_plan.specs.declared.EraseEntry.{EraseEntry}
 use Rattle.erase_plan.specs.Plan.{blockEnd, cover, chosen, entryAt, nextPos, planIn, plan}
 use Rattle.erase_plan.specs.Span.{endOf, spanStart, spanEnd}
 use Rattle.erase_plan.specs.Words.{Each, Mult}
-use Rattle.erase_plan.specs.Good.{Present, Divides, Has, Kinds, Power, Aligned, Holds, Meets, Inside, Follows, Covers, Good}
+use Rattle.erase_plan.specs.Good.{Present, Divides, Has, Kinds, Aligned, Holds, Meets, Inside, Follows, Covers, Good}
+use Rattle.erase_plan.specs.Later.{Power}
 use Rattle.erase_plan.proofs.Lists.{lt-or-le, each-map}
 use Rattle.erase_plan.proofs.Multiples.{base-mult, end-mult, end-base, base-le, end-gt, mult-trans, end-mono, base-self, mult-self, mult-le, pow-mult}
 use Rattle.erase_plan.proofs.Choice.{chosen-each, chosen-most}
@@ -89,7 +90,7 @@ has-cover L (t ∷ ts) pos end c (inl e) m = subst (λ (x : ℕ). min (blockEnd 
 has-cover L (t ∷ ts) pos end c (inr h) m = has-cover L ts pos end c h (m .1)
 has-cover L [] pos end c h m = absurd h
 
-kinds-present : {L : ℕ} {ts : List EraseType} → Kinds L ts → Each Present ts
+pub kinds-present : {L : ℕ} {ts : List EraseType} → Kinds L ts → Each Present ts
 kinds-present {L} {ts} K = each-map (Divides L) Present (λ t d. d .some) ts (K .each)
 
 module _ (L : ℕ) (t : EraseType) (ts : List EraseType) (K : Kinds L (t ∷ ts)) where

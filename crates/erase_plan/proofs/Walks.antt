@@ -14,9 +14,11 @@ use Rattle.erase_plan.specs.Plan.{nextOf, plan}
 use Rattle.erase_plan.specs.Span.{endOf, spanStart, spanEnd, surveyOf}
 use Rattle.erase_plan.specs.Words.{Each}
 use Rattle.erase_plan.specs.Good.{Present}
+use Rattle.erase_plan.specs.Later.{Even}
 use Rattle.erase_plan.specs.Passing.{Passed, walkOver}
 use Rattle.erase_plan.proofs.Lists.{by-cond, no-true}
 use Rattle.erase_plan.proofs.Steps.{plan-nothing, plan-entry, plan-done}
+use Rattle.erase_plan.proofs.Places.{next-on}
 
 -- ---- one entry more at the end
 pub end-append : (es : List EraseEntry) (e : EraseEntry) → spanEnd (es ++ e ∷ []) ≡ endOf e
@@ -59,6 +61,7 @@ module _ (ts : List EraseType) (p : Each Present ts) (start end : ℕ) (w : Walk
         whole = ahead ∙ ap (λ (l : List EraseEntry). k .entries ++ l) (plan-nothing ts (w .at) end h);
         told = k .told;
         few = λ q. no-true q;
+        marked = λ q. no-true q;
       }
 
   module _ (e : EraseEntry) (s : ℕ) (m : Surveyed) (h : nextOf ts (w .at) end ≡ Entry e s)
@@ -70,13 +73,14 @@ module _ (ts : List EraseType) (p : Each Present ts) (start end : ℕ) (w : Walk
         ∙ sym (append-assoc (k .entries) (e ∷ []) (plan ts (s + 1) end))
 
     -- an entry, and the range goes on
-    pub walk-more : Passed ts start end (record { going = true; at = s + 1; seen = m })
-    walk-more =
+    pub walk-more : (later : Bool) → (later ≡ true → Even ts) → s + 1 < end → Passed ts start end (record { going = true; at = s + 1; later = later; seen = m })
+    walk-more later even l =
         record {
           entries = k .entries ++ e ∷ [];
           whole = past;
           told = more (k .entries) (k .told);
           few = λ _. omega (arith, length-append (k .entries) (e ∷ []), k .few g, plan-entry ts p (w .at) end e s h .after);
+          marked = λ q. (even q, next-on ts (even q) (w .at) end e s h l);
         }
 
     -- an entry, and the range ends
@@ -87,13 +91,14 @@ module _ (ts : List EraseType) (p : Each Present ts) (start end : ℕ) (w : Walk
           whole = past ∙ ap (λ (x : List EraseEntry). (k .entries ++ e ∷ []) ++ x) (plan-done ts (s + 1) end l);
           told = more (k .entries) (k .told);
           few = λ q. no-true q;
+          marked = λ q. no-true q;
         }
 
 -- ---- a whole walk
 pub walk-starts : (ts : List EraseType) (start end : ℕ)
-    → Passed ts start end (record { going = true; at = start; seen = record { count = 0; first = 0; end = 0 } })
+    → Passed ts start end (record { going = true; at = start; later = false; seen = record { count = 0; first = 0; end = 0 } })
 unfolding surveyOf spanStart spanEnd
-walk-starts ts start end = record { entries = []; whole = refl; told = refl; few = λ _. omega arith }
+walk-starts ts start end = record { entries = []; whole = refl; told = refl; few = λ _. omega arith; marked = λ q. no-true q }
 
 pub walk-ends : (ts : List EraseType) (start end : ℕ) (w : Walk) → w .going ≡ false → Passed ts start end w → w .seen ≡ surveyOf (plan ts start end)
 walk-ends ts start end w g k =

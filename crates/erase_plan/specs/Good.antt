@@ -3,7 +3,7 @@ use mathlib.Core.Path.{_≡_}
 use mathlib.Core.Bool.{Bool, true, cond}
 use mathlib.Core.Logic.{_⊎_}
 use mathlib.Core.List.{List, [], _∷_, _++_}
-use Prim.Native.Nat.{ℕ, _+_, _-_, _^_, _≤_, _<_}
+use Prim.Native.Nat.{ℕ, _+_, _-_, _≤_, _<_}
 use lib.ListN.{length}
 use Rattle.erase_plan.specs.declared.EraseType.{EraseType}
 use Rattle.erase_plan.specs.declared.EraseEntry.{EraseEntry}
@@ -39,11 +39,6 @@ Has L (t ∷ ts) = (t .size ≡ L) ⊎ Has L ts
 pub record Kinds (L : ℕ) (ts : List EraseType) : Type 0 where
   pub each : Each (Divides L) ts
   pub has : Has L ts
-
--- a size that is a power of two
-pub record Power (t : EraseType) : Type 0 where
-  pub exponent : ℕ
-  pub is : t .size ≡ 2 ^ exponent
 
 -- u is worse than t at a position: it covers less, or as much with a larger size
 abbrev pub Worse : ℕ → ℕ → EraseType → EraseType → Type 0

@@ -5,10 +5,12 @@ ghost use mathlib.Core.List.{List, [], _∷_, _++_};
 ghost use Prim.Native.Nat.{ℕ, _+_, _≤_, _<_};
 ghost use lib.Dec.{eqb};
 ghost use Rattle.erase_plan.specs.Types.{fourOf, inOrder, kept, present, slots, sort, sortedOf, timeRank};
-ghost use Rattle.erase_plan.specs.Plan.{entryFrom, nextOf, plan};
+ghost use Rattle.erase_plan.specs.Plan.{blockBase, entryFrom, nextOf, plan};
 ghost use Rattle.erase_plan.specs.Span.{spanCheck, surveyOf};
 ghost use Rattle.erase_plan.specs.Words.{Each};
 ghost use Rattle.erase_plan.specs.Good.{Present};
+ghost use Rattle.erase_plan.specs.Later.{OnAll};
+ghost use Rattle.erase_plan.specs.Marks.{isPower, isSingle, arePowers, isEven};
 ghost use Rattle.erase_plan.specs.Passing.{Passed, walkOver};
 
 // One available erase type. size 0: no such type. timed: whether the typical time is known; time is 0 where it is not.
@@ -56,10 +58,12 @@ pub enum SpanCheck {
     Bad(u32),
 }
 
-// A walk along a plan: whether an entry may follow, where it would start, and the entries seen so far.
+// A walk along a plan: whether an entry may follow, where it would start, whether that is known to be a multiple of every size, and the
+// entries seen so far.
 struct Walk {
     going: bool,
     at: u32,
+    later: bool,
     seen: Surveyed,
 }
 
@@ -148,9 +152,86 @@ pub fn sorted(a: EraseType, b: EraseType, c: EraseType, d: EraseType) -> EraseTy
     )
 }
 
-// A type's entry for its aligned block at a position, if there is one.
-fn entry_of(t: EraseType, at: u32, last: u32) -> Next
-    ensures { λ r. ⌜ r ≡ nextOf (kept t) at (last + 1) ⌝ }
+// ---- which positions are multiples of every size, as far as it is seen without dividing
+
+// Whether a slot is empty or its size is a power of two.
+fn is_power(t: EraseType) -> bool
+    ensures { λ r. ⌜ r ≡ isPower t ⌝ }
+{
+    let size = t.size;
+    if size == 0 {
+        return true;
+    }
+    1u64 << u32::trailing_zeros(size) == size as u64
+}
+
+// Whether no slot but the first holds a type.
+fn is_single(ts: EraseTypes) -> bool
+    ensures { λ r. ⌜ r ≡ isSingle ts ⌝ }
+{
+    if ts.t2.size == 0 {
+        if ts.t3.size == 0 {
+            return ts.t4.size == 0;
+        }
+    }
+    false
+}
+
+// Whether every size is a power of two.
+fn are_powers(ts: EraseTypes) -> bool
+    ensures { λ r. ⌜ r ≡ arePowers ts ⌝ }
+{
+    if is_power(ts.t1) {
+        if is_power(ts.t2) {
+            if is_power(ts.t3) {
+                return is_power(ts.t4);
+            }
+        }
+    }
+    false
+}
+
+// Whether there is a single size, or all are powers of two: then every entry after the first starts at its own position.
+pub fn is_even(ts: EraseTypes) -> bool
+    ensures { λ r. ⌜ r ≡ isEven ts ⌝ }
+{
+    if is_single(ts) { true } else { are_powers(ts) }
+}
+
+// Whether a position is seen to be a multiple of a type's size: the size is a power of two, and the bits below it are 0.
+fn lies_on(t: EraseType, at: u32) -> bool
+    ensures { λ r. ⌜ (r ≡ true → OnAll at (kept t)) ⌝ }
+{
+    let size = t.size;
+    if size == 0 {
+        return true;
+    }
+    if is_power(t) {
+        at & (size - 1) == 0
+    } else {
+        false
+    }
+}
+
+// The same of every type.
+fn lies_on_all(ts: EraseTypes, at: u32) -> bool
+    ensures { λ r. ⌜ (r ≡ true → OnAll at (present ts)) ⌝ }
+{
+    if lies_on(ts.t1, at) {
+        if lies_on(ts.t2, at) {
+            if lies_on(ts.t3, at) {
+                return lies_on(ts.t4, at);
+            }
+        }
+    }
+    false
+}
+
+// ---- one entry
+
+// A type's entry for its block at a base, if there is one: base is that of the aligned block at the position.
+fn block_at(t: EraseType, base: u32, at: u32, last: u32) -> Next
+    ensures { λ r. ⌜ ((0 < t .size → base ≡ blockBase (t .size) at) → r ≡ nextOf (kept t) at (last + 1)) ⌝ }
 {
     let size = t.size;
     if size == 0 {
@@ -159,7 +240,6 @@ fn entry_of(t: EraseType, at: u32, last: u32) -> Next
     if last < at {
         return Next::Nothing;
     }
-    let base = at - at % size;
     let entry = entry_for(t, base);
     let stop = base as u64 + (size - 1) as u64;
     if stop < last as u64 {
@@ -170,6 +250,25 @@ fn entry_of(t: EraseType, at: u32, last: u32) -> Next
     } else {
         Next::Entry { entry, stop: last }
     }
+}
+
+// A type's entry at the first position of a plan: the base is rounded down to a multiple of the size.
+fn first_of(t: EraseType, at: u32, last: u32) -> Next
+    ensures { λ r. ⌜ r ≡ nextOf (kept t) at (last + 1) ⌝ }
+{
+    let size = t.size;
+    if size == 0 {
+        return Next::Nothing;
+    }
+    let base = at - at % size;
+    block_at(t, base, at, last)
+}
+
+// A type's entry at a later position, which is a multiple of the size: the base is the position.
+fn later_of(t: EraseType, at: u32, last: u32) -> Next
+    ensures { λ r. ⌜ (OnAll at (kept t) → r ≡ nextOf (kept t) at (last + 1)) ⌝ }
+{
+    block_at(t, at, at, last)
 }
 
 // The entry of a type with its block's base.
@@ -208,19 +307,54 @@ fn better(a: Next, b: Next) -> Next
     a
 }
 
-// The plan's entry at a position of a range whose last byte is at last. The next position is one past stop, and the plan is over where
-// stop is last.
+// The first entry of a plan, at any position: it rounds down.
+pub fn first_entry(ts: EraseTypes, at: u32, last: u32) -> Next
+    ensures { λ r. ⌜ r ≡ nextOf (present ts) at (last + 1) ⌝ }
+{
+    let one = first_of(ts.t1, at, last);
+    let two = better(one, first_of(ts.t2, at, last));
+    let three = better(two, first_of(ts.t3, at, last));
+    better(three, first_of(ts.t4, at, last))
+}
+
+// A later entry of a plan, at a position that is a multiple of every size: nothing is rounded.
+pub fn later_entry(ts: EraseTypes, at: u32, last: u32) -> Next
+    ensures { λ r. ⌜ (OnAll at (present ts) → r ≡ nextOf (present ts) at (last + 1)) ⌝ }
+{
+    let one = later_of(ts.t1, at, last);
+    let two = better(one, later_of(ts.t2, at, last));
+    let three = better(two, later_of(ts.t3, at, last));
+    better(three, later_of(ts.t4, at, last))
+}
+
+// The entry at a position with a mark whether it is known to be a multiple of every size.
+pub fn entry_at(ts: EraseTypes, later: bool, at: u32, last: u32) -> Next
+    ensures { λ r. ⌜ ((later ≡ true → OnAll at (present ts)) → r ≡ nextOf (present ts) at (last + 1)) ⌝ }
+{
+    if later {
+        later_entry(ts, at, last)
+    } else {
+        first_entry(ts, at, last)
+    }
+}
+
+// The mark of the position after an entry.
+pub fn later_next(ts: EraseTypes, later: bool) -> bool
+    ensures { λ r. ⌜ r ≡ (later || isEven ts) ⌝ }
+{
+    if later { true } else { is_even(ts) }
+}
+
+// The plan's entry at a position of a range whose last byte is at last, whether it is the first one or not. The next position is one past
+// stop, and the plan is over where stop is last.
 pub fn next_entry(ts: EraseTypes, at: u32, last: u32) -> Next
     ensures { λ r. ⌜ r ≡ nextOf (present ts) at (last + 1) ⌝ }
 {
-    let t1 = ts.t1;
-    let t2 = ts.t2;
-    let t3 = ts.t3;
-    let t4 = ts.t4;
-    let one = entry_of(t1, at, last);
-    let two = better(one, entry_of(t2, at, last));
-    let three = better(two, entry_of(t3, at, last));
-    better(three, entry_of(t4, at, last))
+    if lies_on_all(ts, at) {
+        later_entry(ts, at, last)
+    } else {
+        first_entry(ts, at, last)
+    }
 }
 
 // One entry more: where s tells of some entries, the result tells of them and e.
@@ -250,6 +384,7 @@ fn over(at: u32, seen: Surveyed) -> Walk
     Walk {
         going: false,
         at,
+        later: false,
         seen,
     }
 }
@@ -257,11 +392,11 @@ fn over(at: u32, seen: Surveyed) -> Walk
 // One turn of a walk: past the entry at its position, if there is one. Where the walk goes on, its position has grown.
 fn walk_on(ts: EraseTypes, last: u32, w: Walk) -> Walk
     requires { ⌜ w .seen .count ≤ w .at ⌝ }
-    ensures { λ r. ⌜ (r .going ≡ true → w .at < r .at) × ((start : ℕ) → w .going ≡ true → Passed (present ts) start (last + 1) w → Passed (present ts) start (last + 1) r) ⌝ }
+    ensures { λ r. ⌜ ((start : ℕ) → w .going ≡ true → Passed (present ts) start (last + 1) w → (r .going ≡ true → w .at < r .at) × Passed (present ts) start (last + 1) r) ⌝ }
 {
     let at = w.at;
     let seen = w.seen;
-    let Next::Entry { entry, stop } = next_entry(ts, at, last) else {
+    let Next::Entry { entry, stop } = entry_at(ts, w.later, at, last) else {
         return over(at, seen);
     };
     let more = with_entry(seen, entry);
@@ -269,6 +404,7 @@ fn walk_on(ts: EraseTypes, last: u32, w: Walk) -> Walk
         Walk {
             going: true,
             at: stop + 1,
+            later: later_next(ts, w.later),
             seen: more,
         }
     } else {
@@ -288,6 +424,7 @@ pub fn survey(ts: EraseTypes, at: u32, last: u32) -> Surveyed
     let mut w = Walk {
         going: true,
         at,
+        later: false,
         seen: none,
     };
     while w.going {

@@ -17,9 +17,10 @@ use Rattle.plans.specs.declared.PlanQuery.{PlanQuery}
 use Rattle.plans.specs.declared.Cursor.{Cursor}
 use Rattle.plans.specs.declared.Begun.the-variants.{Ready}
 use Rattle.plans.specs.Available.{available}
-use Rattle.plans.specs.Planned.{typesFor, planFor, begunOf, plannedOf, stepOf, ahead}
-use Rattle.plans.proofs.Filled.{entriesFrom, entries-are}
-use Rattle.plans.proofs.Laws.{begun-ready}
+use Rattle.plans.specs.Planned.{typesFor, planFor}
+use Rattle.plans.specs.Cursors.{begunOf, stepOf, ahead, Kept}
+use Rattle.plans.proofs.Filled.{entriesFrom, entries-are, unmarked}
+use Rattle.plans.proofs.Laws.{begun-ready, planned-begun}
 use Rattle.packed.specs.Numbers.{bytes}
 use Rattle.moss_flash.specs.Plans.{entryBytes, recordsOf, planOver}
 
@@ -90,6 +91,9 @@ module _ (q : PlanQuery) (n : ℕ) (c : Cursor) (h : begunOf q ≡ Ready n c) wh
   pub count-ahead : n ≡ length (ahead c)
   count-ahead = begun-ready q n c h .count ∙ sym (ap length from-start)
 
+  pub cursor-unmarked : Kept c
+  cursor-unmarked = unmarked c (ap (λ (d : Cursor). d .later) (begun-ready q n c h .start))
+
   pub plan-written : (l : List ℕ) → n ≤ length l / 16 → recordsOf (ahead c) ++ drop (16 * n) l ≡ planOver q l
-  unfolding planOver plannedOf
-  plan-written l e = rw (h, le-leb n (length l / 16) e, from-start, begun-ready q n c h .count) refl
+  unfolding planOver
+  plan-written l e = rw (planned-begun, h, le-leb n (length l / 16) e, from-start, begun-ready q n c h .count) refl

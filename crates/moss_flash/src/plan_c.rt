@@ -4,7 +4,8 @@ ghost use Prim.Native.Nat.{_*_, _/_, _≤_};
 ghost use mathlib.Core.List.{_++_};
 ghost use lib.ListN.{length, drop};
 ghost use Rattle.packed.specs.Numbers.{fourOf};
-ghost use Rattle.plans.specs.Planned.{ahead, plannedOf};
+ghost use Rattle.plans.specs.Planned.{plannedOf};
+ghost use Rattle.plans.specs.Cursors.{ahead, Kept};
 ghost use Rattle.moss_flash.specs.Calls.{openedOf};
 ghost use Rattle.moss_flash.specs.Plans.{queryOf, entryBytes, recordsOf, planNumber, planWords, planOver, planCalled};
 use crate::Opened;
@@ -62,7 +63,7 @@ fn entry_bytes(e: EraseEntry) -> [u8; 16]
 
 // So many entries from a cursor on, all that are ahead.
 fn write_entries(out: &mut [u8], n: u64, c: Cursor)
-    requires { ⌜ (n ≡ length (ahead c)) × (16 * n ≤ length (now out)) ⌝ }
+    requires { ⌜ (n ≡ length (ahead c)) × (16 * n ≤ length (now out)) × Kept c ⌝ }
     ensures { λ _. ⌜ now (out .exit) ≡ recordsOf (ahead c) ++ drop (16 * n) (now (out .entry)) ⌝ }
 {
     let mut cursor = c;

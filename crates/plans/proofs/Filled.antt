@@ -7,10 +7,10 @@ use mathlib.Core.List.{List, [], _∷_, _++_, append-assoc}
 use native.Mathlib.Nat.{add-zero}
 use native.Mathlib.Numerals.{add-one}
 use native.Mathlib.Omega.{arith}
-use lib.Dec.{eqb, leb}
+use lib.Dec.{eqb, leb, ltb}
 use lib.ListN.{length, take, drop, set, length-set, take-append-drop}
 use lib.Seq.{take-suc-set, drop-set-lt}
-use borrow.Author.Tests.{leb-true, lt-ltb, le-ltb}
+use borrow.Author.Tests.{leb-true, ltb-true, lt-ltb, le-ltb}
 use Rattle.settings.specs.declared.RangeCheck.{RangeCheck}
 use Rattle.settings.specs.declared.RangeCheck.the-variants as Range
 use Rattle.settings.specs.Ranges.{checkAddressLength}
@@ -19,16 +19,19 @@ use Rattle.erase_plan.specs.declared.Next.{Next}
 use Rattle.erase_plan.specs.declared.Next.the-variants as Then
 use Rattle.erase_plan.specs.Types.{present}
 use Rattle.erase_plan.specs.Plan.{plan, nextOf}
-use Rattle.erase_plan.proofs.Lists.{lt-or-le}
+use Rattle.erase_plan.proofs.Lists.{lt-or-le, by-cond, no-true}
 use Rattle.erase_plan.proofs.Ordering.{present-present}
+use Rattle.erase_plan.proofs.Places.{next-on, mark-even}
 use Rattle.erase_plan.proofs.Steps.{plan-nothing, plan-entry, plan-done, Unrolled}
 use Rattle.plans.specs.Available.{available}
-use Rattle.plans.specs.Planned.{ahead, typesFor, planFor, cursorFor, afterChecks, begunOf, answerOf, plannedOf, writtenOf, stepFrom, stepOf, moved, prepared, preparedOf}
+use Rattle.plans.specs.Planned.{typesFor, planFor, plannedOf, writtenOf}
+use Rattle.plans.specs.Cursors.{ahead, cursorFor, afterChecks, begunOf, answerOf, Kept, stepFrom, stepOf, moved, prepared, preparedOf}
 use Rattle.plans.specs.declared.PlanQuery.{PlanQuery}
 use Rattle.plans.specs.declared.Cursor.{Cursor}
 use Rattle.plans.specs.declared.Begun.{Begun}
 use Rattle.plans.specs.declared.Begun.the-variants.{InvalidAddress, NoEraseInstruction, Ready}
 use Rattle.plans.proofs.Found.{range-some}
+use Rattle.plans.proofs.Laws.{planned-begun}
 
 -- ---- one slot after the other
 -- the first m entries from a cursor on
@@ -86,6 +89,27 @@ module _ (n : ℕ) (c : Cursor) (h : suc n ≡ length (ahead c)) (ih : (d : Curs
   by-next (Then.Entry e s) f = with-entry e s f
   by-next Then.Nothing f = absurd (omega (arith, ap length (plan-nothing (present (c .types)) (c .at) (c .last + 1) f)))
 
+-- ---- a mark stays true
+module _ (c : Cursor) (k : Kept c) where
+  kept-next : (o : Next) → nextOf (present (c .types)) (c .at) (c .last + 1) ≡ o → Kept (stepFrom c o .next)
+  kept-next Then.Nothing f = k
+  kept-next (Then.Entry e s) f =
+      by-cond Kept (ltb s (c .last)) (moved c (s + 1)) c
+      (λ l. record {
+        marked = λ m.
+            let even = mark-even (c .types) (c .later) (λ q. k .marked q .0) m in
+            (even, next-on (present (c .types)) even (c .at) (c .last + 1) e s f (omega (arith, ltb-true s (c .last) l)));
+      })
+      (λ _. k)
+
+  pub step-kept : Kept (stepOf c .next)
+  unfolding stepOf
+  step-kept = kept-next (nextOf (present (c .types)) (c .at) (c .last + 1)) refl
+
+-- a first entry's cursor has no mark
+pub unmarked : (c : Cursor) → c .later ≡ false → Kept c
+unmarked c e = record { marked = λ m. no-true (sym e ∙ m) }
+
 pub entries-are : (n : ℕ) (c : Cursor) → n ≡ length (ahead c) → entriesFrom n c ≡ ahead c
 unfolding entriesFrom stepOf
 entries-are zero c h = empty (ahead c) h
@@ -95,6 +119,7 @@ entries-are (suc n) c h = by-next n c h (λ d. entries-are n d) (nextOf (present
 pub record Fills (q : PlanQuery) (slots : List EraseEntry) (b : Begun) : Type 0 where
   pub room : prepared b (length slots) .slots ≤ length slots
   pub answer : prepared b (length slots) .answer ≡ answerOf b (length slots)
+  pub first : prepared b (length slots) .cursor .later ≡ false
   pub written : fillFrom 0 (prepared b (length slots) .slots) (prepared b (length slots) .cursor) slots
       ≡ cond (eqb (answerOf b (length slots) .number) 0) (planFor q ++ drop (length (planFor q)) slots) slots
 
@@ -118,17 +143,18 @@ module _ (q : PlanQuery) (slots : List EraseEntry) where
           record {
             room = rw l m;
             answer = rw l;
+            first = rw l;
             written = rw l (fills-all (length (planFor q)) (cursorFor q) slots m ∙ ap (λ (es : List EraseEntry). es ++ drop (length (planFor q)) slots) w);
           }
-      by false l = record { room = rw l (omega arith); answer = rw l; written = rw l }
+      by false l = record { room = rw l (omega arith); answer = rw l; first = rw l; written = rw l }
 
   fills-refused : (last : ℕ) → Fills q slots (InvalidAddress last)
   unfolding fillFrom
-  fills-refused last = record { room = omega arith; answer = refl; written = refl }
+  fills-refused last = record { room = omega arith; answer = refl; first = refl; written = refl }
 
   fills-none : Fills q slots NoEraseInstruction
   unfolding fillFrom
-  fills-none = record { room = omega arith; answer = refl; written = refl }
+  fills-none = record { room = omega arith; answer = refl; first = refl; written = refl }
 
   fills-begun : Fills q slots (begunOf q)
   unfolding begunOf
@@ -149,10 +175,14 @@ module _ (q : PlanQuery) (slots : List EraseEntry) where
   unfolding preparedOf
   slots-fit = fills-begun .room
 
+  pub cursor-kept : Kept (preparedOf q (length slots) .cursor)
+  unfolding preparedOf
+  cursor-kept = unmarked (prepared (begunOf q) (length slots) .cursor) (fills-begun .first)
+
   pub answer-is : preparedOf q (length slots) .answer ≡ plannedOf q (length slots)
-  unfolding preparedOf plannedOf
-  answer-is = fills-begun .answer
+  unfolding preparedOf
+  answer-is = fills-begun .answer ∙ sym (planned-begun q (length slots))
 
   pub written-is : fillFrom 0 (preparedOf q (length slots) .slots) (preparedOf q (length slots) .cursor) slots ≡ writtenOf q slots
-  unfolding preparedOf writtenOf plannedOf
-  written-is = fills-begun .written
+  unfolding preparedOf writtenOf
+  written-is = rw (planned-begun q (length slots)) (fills-begun .written)

@@ -15,7 +15,8 @@ use Rattle.settings.specs.declared.RangeCheck.the-variants as Range
 use Rattle.settings.specs.Ranges.{checkAddressLength}
 use Rattle.settings.proofs.Laws.{check-fits, accepted-nonempty, accepted-32}
 use Rattle.plans.specs.Available.{allZero, available}
-use Rattle.plans.specs.Planned.{startAt, typesFor, planFor, begunOf, noRoom, writing, refusing, prepared}
+use Rattle.plans.specs.Planned.{typesFor, planFor, noRoom}
+use Rattle.plans.specs.Cursors.{startAt, begunOf, writing, refusing, prepared}
 use Rattle.plans.specs.declared.PlanQuery.{PlanQuery}
 use Rattle.plans.specs.declared.Cursor.{Cursor}
 use Rattle.plans.specs.declared.Begun.{Begun}
@@ -63,7 +64,7 @@ module _ (s : Settings) (a n : ℕ) (h : checkAddressLength s a n ≡ Range.Fits
 -- the start of its plan
 pub begun-fits : (q : PlanQuery) → checkAddressLength (q .settings) (q .address) (q .length) ≡ Range.Fits → (ts : EraseTypes) (last : ℕ)
     → ts ≡ available (q .settings) (q .known) (q .params) → last + 1 ≡ q .address + q .length
-    → startAt (record { types = ts; at = q .address; last = last }) ≡ begunOf q
+    → startAt (record { types = ts; at = q .address; last = last; later = false }) ≡ begunOf q
 unfolding begunOf typesFor planFor
 begun-fits q h ts last e f =
     let l : last ≡ q .address + q .length - 1 = omega arith in

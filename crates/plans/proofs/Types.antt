@@ -21,7 +21,9 @@ use Rattle.settings.proofs.Table.{table-given, type-size}
 use Rattle.erase_plan.specs.declared.EraseType.{EraseType}
 use Rattle.erase_plan.specs.declared.EraseTypes.{EraseTypes}
 use Rattle.erase_plan.specs.Types.{noType, kept, present, sort, fourOf}
-use Rattle.erase_plan.specs.Good.{Each, Sorted, Kinds, Power}
+use Rattle.erase_plan.specs.Words.{Each}
+use Rattle.erase_plan.specs.Good.{Sorted, Kinds}
+use Rattle.erase_plan.specs.Later.{Power, Even}
 use Rattle.erase_plan.proofs.Lists.{by-cond, each-append}
 use Rattle.erase_plan.proofs.Ordering.{kept-none, kept-one, sort-each, sort-sorted}
 use Rattle.erase_plan.proofs.Slots.{sorted-present}
@@ -156,6 +158,14 @@ available-kinds s known p read =
     (sort-each Power (listed (p .«erase_insts»)) (listed-powers (p .«erase_insts») (read-powers p (read k)))))
     (λ h. absurd (omega arith))
     (λ t h _ _. (t .size, single-kinds t h))
+
+-- powers of two, or a single size
+pub available-even : (s : Settings) (known : Bool) (p : FlashParams) → (known ≡ true → WasRead p) → Even (present (available s known p))
+available-even s known p read =
+    available-by Even s known p
+    (λ k. inl (sort-each Power (listed (p .«erase_insts»)) (listed-powers (p .«erase_insts») (read-powers p (read k)))))
+    (inl tt)
+    (λ t h _. inr h)
 
 pub available-small : (s : Settings) → Sound s → (known : Bool) (p : FlashParams) → (known ≡ true → WasRead p) → Each Small (present (available s known p))
 available-small s sound known p read =

@@ -1,2 +1,3 @@
 pub mod Available
 pub mod Planned
+pub mod Cursors

@@ -6,7 +6,8 @@ ghost use lib.Dec.{eqb};
 ghost use lib.ListN.{length};
 ghost use Rattle.erase_plan.specs.Types.{fourOf, noType, present};
 ghost use Rattle.plans.specs.Available.{typeOf, single, ofParams, allZero, noInsts, usable4K, ofSettings, available};
-ghost use Rattle.plans.specs.Planned.{ahead, startAt, begunOf, noEntry, refusing, preparedOf, stepOf, plannedOf, writtenOf};
+ghost use Rattle.plans.specs.Planned.{plannedOf, writtenOf};
+ghost use Rattle.plans.specs.Cursors.{ahead, startAt, begunOf, noEntry, refusing, preparedOf, stepOf, Kept};
 use erase_plan::EraseEntry;
 use erase_plan::EraseType;
 use erase_plan::EraseTypes;
@@ -26,11 +27,13 @@ pub struct PlanQuery {
     pub length: u64,
 }
 
-// A place in a plan: its types, the address that the next entry is for, and the range's last address.
+// A place in a plan: its types, the address that the next entry is for, the range's last address, and whether the address is known to be a
+// multiple of every size, as it is after the first entry.
 pub struct Cursor {
     pub types: EraseTypes,
     pub at: u32,
     pub last: u32,
+    pub later: bool,
 }
 
 // The entry at a cursor, and the cursor past it.
@@ -246,6 +249,7 @@ pub fn begin(q: PlanQuery) -> Begun
                 types: erase_types(s, q.known, p),
                 at: q.address,
                 last: last as u32,
+                later: false,
             })
         }
     }
@@ -265,12 +269,12 @@ fn no_entry() -> EraseEntry
     }
 }
 
-// The entry at a cursor, and the cursor past it. After the last entry the cursor is not used, and stays.
+// The entry at a cursor whose mark is true, and the cursor past it. After the last entry the cursor is not used, and stays.
 pub fn advance(c: Cursor) -> Step
-    ensures { λ r. ⌜ r ≡ stepOf c ⌝ }
+    ensures { λ r. ⌜ (Kept c → r ≡ stepOf c) ⌝ }
 {
     let types = c.types;
-    let Next::Entry { entry, stop } = erase_plan::next_entry(types, c.at, c.last) else {
+    let Next::Entry { entry, stop } = erase_plan::entry_at(types, c.later, c.at, c.last) else {
         return Step {
             entry: no_entry(),
             next: c,
@@ -283,6 +287,7 @@ pub fn advance(c: Cursor) -> Step
                 types,
                 at: stop + 1,
                 last: c.last,
+                later: erase_plan::later_next(types, c.later),
             },
         }
     } else {
@@ -303,6 +308,7 @@ fn refuse(answer: Planned) -> Prepared
             types: no_types(),
             at: 0,
             last: 0,
+            later: false,
         },
     }
 }

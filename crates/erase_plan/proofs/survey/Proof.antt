@@ -23,10 +23,12 @@ walk-on-requires : tie.Need-walk-on-requires Inv-loop μ-loop
 walk-on-requires c κs = walk-few _ _ _ (c .before .loop .w) (c .loop-test .taken) (c .before .loop .inv .0)
 
 loop-less : tie.Need-loop-less Inv-loop μ-loop
-loop-less c = walk-less (c .before .before .loop .w) (c .walk-on .result) (c .before .loop-test .taken) (c .before .before .loop .inv .1) (c .walk-on .ensures .0)
+loop-less c =
+    walk-less (c .before .before .loop .w) (c .walk-on .result) (c .before .loop-test .taken) (c .before .before .loop .inv .1)
+    (c .walk-on .ensures _ (c .before .loop-test .taken) (c .before .before .loop .inv .0) .0)
 
 loop-again : tie.Need-loop-again Inv-loop μ-loop
-loop-again c = (c .walk-on .ensures .1 _ (c .before .loop-test .taken) (c .before .before .loop .inv .0), search needs)
+loop-again c = (c .walk-on .ensures _ (c .before .loop-test .taken) (c .before .before .loop .inv .0) .1, search needs)
 
 returns : tie.Need-returns Inv-loop μ-loop
 returns c = walk-ends _ _ _ (c .before .before .loop .w) (c .before .loop-test .left) (c .before .before .loop .inv .0)

@@ -1,7 +1,7 @@
 -- `plans::begin` meets its contract: the range is refused, or its last address fits 32 bits and the plan starts.
 use native.Mathlib.Omega.{arith}
 use Rattle.plans.proofs.Found.{range-some, range-32, begun-fits}
-use Rattle.plans.specs.Planned.{begunOf}
+use Rattle.plans.specs.Cursors.{begunOf}
 use mathlib.Core.Path.{sym, _∙_}
 use borrow.Author.Needs.{needs}
 use Rattle.plans.proofs.begin.Statement.{statement}

@@ -49,13 +49,14 @@ use denote.Exit.{yes}
 use Rattle.erase_plan.specs.declared.EraseEntry.{EraseEntry}
 use Rattle.erase_plan.proofs.EraseEntry as T
 use Rattle.erase_plan.proofs.EraseEntry.Laws as T′
-use Rattle.plans.specs.Planned.{stepOf, preparedOf, plannedOf, writtenOf}
+use Rattle.plans.specs.Planned.{plannedOf, writtenOf}
+use Rattle.plans.specs.Cursors.{Kept, stepOf, preparedOf}
 use Rattle.plans.specs.declared.PlanQuery.{PlanQuery}
 use Rattle.plans.specs.declared.Cursor.{Cursor}
 use Rattle.plans.specs.declared.Step.{Step}
 use Rattle.plans.specs.declared.Prepared.{Prepared}
 use Rattle.plans.specs.declared.Planned.{Planned}
-use Rattle.plans.proofs.Filled.{fillFrom, slots-fit, answer-is, written-is}
+use Rattle.plans.proofs.Filled.{fillFrom, step-kept, slots-fit, cursor-kept, answer-is, written-is}
 use Rattle.plans.proofs.PlanQuery as Q
 use Rattle.plans.proofs.PlanQuery.Laws as Q′
 use Rattle.plans.proofs.Cursor as K
@@ -162,8 +163,8 @@ module _ {M : Type 1} (𝓤 : URA M) (H : Heap 𝓤) (A : Atoms 𝓤) (W : Given
       qed W (‵ (Q.the-row .own q (machQ q ∷ [])) ∷ ‵ (usize .own m (vint w64 m ∷ [])) ∷ []) ∵
       nothing ! $ move ! (2 ∷ 0 ∷ []) $ join ! $ move ! (1 ∷ 0 ∷ []) $ join ! $ nothing ! $ join ! $ frame ! $ done !
 
-  advance-said : (c : Cursor) (r : Step) → ent 𝓤 (ensured 𝓤 H A advance′.ended (advance′.clauses 𝓤 H A mem run) tt (c, tt) tt r) (fact 𝓤 (r ≡ stepOf c))
-  advance-said c r = exE 𝓤 _ (λ ws. snd∗ 𝓤 (sem 𝓤 H A (lasts advance′.ended tt (c, tt) ws)) (fact 𝓤 (r ≡ stepOf c)))
+  advance-said : (c : Cursor) (r : Step) → ent 𝓤 (ensured 𝓤 H A advance′.ended (advance′.clauses 𝓤 H A mem run) tt (c, tt) tt r) (fact 𝓤 (Kept c → r ≡ stepOf c))
+  advance-said c r = exE 𝓤 _ (λ ws. snd∗ 𝓤 (sem 𝓤 H A (lasts advance′.ended tt (c, tt) ws)) (fact 𝓤 (Kept c → r ≡ stepOf c)))
 
   abbrev to-advance : Cursor → Advance 𝓤 H A mem run .Ghost
   to-advance c = ((tt, tt, tt, (c, tt), (machC c ∷ [], tt)), tt)
@@ -220,6 +221,7 @@ module _ {M : Type 1} (𝓤 : URA M) (H : Heap 𝓤) (A : Atoms 𝓤) (W : Given
     len : length zs ≡ length ys
     same : fillFrom k (n - k) at zs ≡ fillFrom 0 n (p .cursor) ys
     is : Is K.the-row at (machC at ∷ [])
+    kept : Kept at
     has : Got p
 
   abbrev Nearer : St → St → Type 0
@@ -235,7 +237,7 @@ module _ {M : Type 1} (𝓤 : URA M) (H : Heap 𝓤) (A : Atoms 𝓤) (W : Given
   begin-same = ap (λ (m : ℕ). fillFrom 0 m (p .cursor) ys) (omega arith)
 
   abbrev begin : Got p → St
-  begin g = record { k = 0; at = p .cursor; zs = ys; le = begin-le; len = refl; same = begin-same; is = g .cursor; has = g }
+  begin g = record { k = 0; at = p .cursor; zs = ys; le = begin-le; len = refl; same = begin-same; is = g .cursor; kept = cursor-kept q ys; has = g }
 
   next-same : (t : St) → t .k < n → fillFrom (t .k + 1) (n - (t .k + 1)) (stepOf (t .at) .next) (set (t .zs) (t .k) (stepOf (t .at) .entry)) ≡ fillFrom 0 n (p .cursor) ys
   unfolding fillFrom
@@ -286,7 +288,7 @@ module _ {M : Type 1} (𝓤 : URA M) (H : Heap 𝓤) (A : Atoms 𝓤) (W : Given
         owned ! K.the-row (Is K.the-row) (LL.makes K.the-type K′.the-plain 𝓤 H A) (t .at) _ (t .is) $ use1 W (raw (Advance 𝓤 H A mem run .pre (to-advance 𝓤 H A W mem run (t .at)))) (goes-advance 𝓤 H A W mem run (t .at)) $
         calls-at ! (fmOf 𝓤 H (W .laws) 𝓣) (Advance 𝓤 H A mem run) known (to-advance 𝓤 H A W mem run (t .at)) (and-then ! (load ! (from ! (stop !)) (look ! 17 refl)) (no-more !)) (λ v.
         use1 W (later (some (λ (r : Step). (‵ ftrue ⊛ ‵ (S.the-row .own r (v ∷ []))) ⊛ raw (ensured 𝓤 H A advance′.ended (advance′.clauses 𝓤 H A mem run) tt (t .at, tt) tt r)))) (id⊢ 𝓤 _) $ await ! tt $ pick ! (λ r.
-        split ! $ move ! (1 ∷ []) $ use1 W (raw (fact 𝓤 (r ≡ stepOf (t .at)))) (advance-said 𝓤 H A W mem run (t .at) r) $ heard ! (r ≡ stepOf (t .at)) (λ e. split ! $ drop′ ! $
+        split ! $ move ! (1 ∷ []) $ use1 W (raw (fact 𝓤 (Kept (t .at) → r ≡ stepOf (t .at)))) (advance-said 𝓤 H A W mem run (t .at) r) $ heard ! (Kept (t .at) → r ≡ stepOf (t .at)) (λ said. let e : r ≡ stepOf (t .at) = said (t .kept) in split ! $ drop′ ! $
         peeks ! S.the-row (Is S.the-row) (shows 𝓤 H A S.the-row) r (v ∷ []) (λ is.
         land ! (from ! (stop !)) (init ! 13 refl (LL.lawful S.the-type S′.the-laws 𝓤 H A W .typed r _ is .0)) $ drop′ ! $
         rewrite ! 12 (λ (u : Val). ‵ (fat fullShare S′.mir l₇ 0 u)) (step-val (t .at) r v e is) refl $
@@ -332,7 +334,7 @@ module _ {M : Type 1} (𝓤 : URA M) (H : Heap 𝓤) (A : Atoms 𝓤) (W : Given
         next-is r v e is = LL.owed S.the-type S′.the-laws (stepOf (t .at)) (v ∷ []) (step-is (t .at) r v e is) .1 .0
 
         next : t .k < n → (r : Step) (v : Val) → r ≡ stepOf (t .at) → Is S.the-row r (v ∷ []) → St
-        next l r v e is = record { k = t .k + 1; at = stepOf (t .at) .next; zs = set (t .zs) (t .k) entry; le = omega arith; len = length-set (t .zs) (t .k) entry ∙ t .len; same = next-same t l; is = next-is r v e is; has = t .has }
+        next l r v e is = record { k = t .k + 1; at = stepOf (t .at) .next; zs = set (t .zs) (t .k) entry; le = omega arith; len = length-set (t .zs) (t .k) entry ∙ t .len; same = next-same t l; is = next-is r v e is; kept = step-kept (t .at) (t .kept); has = t .has }
 
     -- what stands after the call of `prepare`
     abbrev Before : List (Item 𝓤)

@@ -1,7 +1,7 @@
 -- `plans::prepare` meets its contract: two refusals, a plan that fits, and one that does not.
 use native.Mathlib.Omega.{arith}
 use Rattle.plans.proofs.Found.{prepared-fits, prepared-short}
-use Rattle.plans.specs.Planned.{preparedOf}
+use Rattle.plans.specs.Cursors.{preparedOf}
 use borrow.Author.Needs.{needs}
 use Rattle.plans.proofs.prepare.Statement.{statement}
 use Rattle.plans.proofs.prepare.Tie as tie

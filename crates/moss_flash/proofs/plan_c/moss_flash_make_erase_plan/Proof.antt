@@ -10,47 +10,47 @@ use Rattle.moss_flash.proofs.plan_c.plan_words.Reads as plan-words-read
 use Rattle.moss_flash.proofs.plan_c.query_of.Reads as query-of-reads
 use Rattle.moss_flash.proofs.records.write_words.Reads as write-words-reads
 
--- src/plan_c.rt:163:11
+-- src/plan_c.rt:164:11
 open-requires : tie.Need-open-requires
 open-requires c κs = search needs
 
--- src/plan_c.rt:164:25
+-- src/plan_c.rt:165:25
 enum-known-n : tie.Need-enum-known-n
 enum-known-n c = search needs
 
--- src/plan_c.rt:165:22
+-- src/plan_c.rt:166:22
 enum-known-s : tie.Need-enum-known-s
 enum-known-s c = search needs
 
--- src/plan_c.rt:166:40
+-- src/plan_c.rt:167:40
 query-of-requires : tie.Need-query-of-requires
 query-of-requires c κs = search needs
 
--- src/plan_c.rt:166:17
+-- src/plan_c.rt:167:17
 plan-into-requires : tie.Need-plan-into-requires
 plan-into-requires c κs = search needs
 
--- src/plan_c.rt:167:41
+-- src/plan_c.rt:168:41
 plan-words-requires : tie.Need-plan-words-requires
 plan-words-requires c κs = search needs
 
--- src/plan_c.rt:167:13
+-- src/plan_c.rt:168:13
 write-words-requires : tie.Need-write-words-requires
 write-words-requires c κs = search needs
 
--- src/plan_c.rt:153:1
+-- src/plan_c.rt:154:1
 returns : tie.Need-returns
 returns c = rw (← c .before .before .before .«open» .ensures, c .before .n .given .1) (refl, refl, refl)
 
--- src/plan_c.rt:153:1
+-- src/plan_c.rt:154:1
 same-length : tie.Need-same-length
 same-length c = search needs
 
--- src/plan_c.rt:153:1
+-- src/plan_c.rt:154:1
 same-length-2 : tie.Need-same-length-2
 same-length-2 c = search needs
 
--- src/plan_c.rt:153:1
+-- src/plan_c.rt:154:1
 returns-2 : tie.Need-returns-2
 returns-2 c = rw (c .before .before .write-words .ensures, c .before .before .before .plan-words .ensures, c .before .before .before .before .before .before .before .plan-into .ensures .0, c .before .before .before .before .before .before .before .plan-into .ensures .1, c .before .before .before .before .before .before .before .before .query-of .ensures, ← c .before .before .before .before .before .before .before .before .before .before .before .before .before .«open» .ensures, c .before .before .before .before .before .before .before .before .before .before .before .s .given .1) (refl, refl, refl)
 
