@@ -10,8 +10,10 @@ use Rattle.erase_plan.specs.Span.{spanStart, spanEnd, spanCheck, sectors
 use Rattle.erase_plan.specs.Words.{Each}
 use Rattle.erase_plan.specs.Good.{Kinds, Good}
 use Rattle.erase_plan.specs.Later.{Power, InPlace, afterFirst}
+use Rattle.erase_plan.specs.Direct.{direct}
 use Rattle.erase_plan.proofs.Planned.{plan-good, single-kinds, power-kinds}
 use Rattle.erase_plan.proofs.Places.{later-in-place}
+use Rattle.erase_plan.proofs.Directly.{direct-is-plan}
 use Rattle.erase_plan.proofs.Spans.{sectors-exact}
 use Rattle.erase_plan.proofs.Examples.{untimed, small, sectors}
 
@@ -46,6 +48,10 @@ small-in-place = later-in-place small (inl small-powers) 8 200
 
 pub odd-in-place : let ts = untimed 3 1 ∷ [] in InPlace ts (nextPos ts 4 20) 20 (afterFirst (plan ts 4 20))
 odd-in-place = later-in-place (untimed 3 1 ∷ []) (inr (omega arith)) 4 20
+
+-- worked out directly: a first block, two largest ones, and a last one
+pub small-direct : direct small 8 200 ≡ plan small 8 200
+small-direct = direct-is-plan small (inl small-powers) 8 200
 
 -- a whole block is accepted by `erase_sectors`
 pub block-accepted : sectorsCheck sectors 0 65536 ≡ Fits

@@ -8,6 +8,7 @@ pub mod Entries
 pub mod Planned
 pub mod Places
 pub mod Walks
+pub mod Directly
 pub mod Spans
 pub mod Examples
 pub mod Instances

@@ -78,7 +78,7 @@ plan-some [] p pos end h n = absurd (omega arith)
 plan-some (t ∷ ts) p pos end h n = rw (plan-more t ts p pos end h) (omega arith)
 
 -- ---- types whose sizes divide the largest
-has-pos : (L : ℕ) (ts : List EraseType) → Each (Divides L) ts → Has L ts → 0 < L
+pub has-pos : (L : ℕ) (ts : List EraseType) → Each (Divides L) ts → Has L ts → 0 < L
 has-pos L (t ∷ ts) d (inl e) = omega (arith, d .0 .some)
 has-pos L (t ∷ ts) d (inr h) = has-pos L ts (d .1) h
 has-pos L [] d h = absurd h
