@@ -130,6 +130,20 @@ digits a b c d e f g i ha hb hc hd he hf hg hi =
 pub fold : (x m : ℕ) → 0 < m → x % 256 + 256 * (x / 256 % m) ≡ x % (m * 256)
 fold x m h = let e : x % (m * 256) ≡ (x / 256 % m) * 256 + x % 256 = mod-mul x h (omega arith) in omega (arith, e)
 
+-- from its lowest four
+pub low-four : (x : ℕ) → x % 256 + 256 * (x / 256 % 256 + 256 * (x / 256 / 256 % 256 + 256 * (x / 256 / 256 / 256 % 256 + 256 * 0))) ≡ x % 2 ^ 32
+low-four x =
+    let x1 = x / 256 in
+    let x2 = x1 / 256 in
+    let x3 = x2 / 256 in
+    let e3 : x3 % 256 + 256 * 0 ≡ x3 % 256 = omega arith in
+    let e2 : x2 % 256 + 256 * (x3 % 256) ≡ x2 % 2 ^ 16 = fold x2 256 (omega arith) in
+    let e1 : x1 % 256 + 256 * (x2 % 2 ^ 16) ≡ x1 % 2 ^ 24 = fold x1 (2 ^ 16) (omega arith) in
+    ap (λ (z : ℕ). x % 256 + 256 * (x1 % 256 + 256 * (x2 % 256 + 256 * z))) e3
+    ∙ ap (λ (z : ℕ). x % 256 + 256 * (x1 % 256 + 256 * z)) e2
+    ∙ ap (λ (z : ℕ). x % 256 + 256 * z) e1
+    ∙ fold x (2 ^ 24) (omega arith)
+
 pub low-8 : (x : ℕ) → lowFirst (le8 x) ≡ x % 2 ^ 64
 unfolding lowFirst
 low-8 x =

@@ -67,7 +67,7 @@ put-packs : (s x : Session) → putOver x (bytesOf s) ≡ bytesOf x
 put-packs s x = ap (λ (b : Bool). cond b (bytesOf x) (bytesOf s)) (eq-eqb _ _ (sized s))
 
 module _ (s : Session) (w : Whole s) (e : List ℕ) (long : 64 ≤ length e) where
-  opened : openedOf (bytesOf s) (length e) ≡ Open s
+  pub opened : openedOf (bytesOf s) (length e) ≡ Open s
   unfolding openedOf
   opened = ap (λ (u : Unpacked). opening u (length e)) (unpacks s w) ∙ ap (λ (b : Bool). cond b (Refused 11) (Open s)) (le-ltb (length e) 64 long)
 

@@ -3,3 +3,4 @@ pub mod Decoding
 pub mod Widths
 pub mod Exports
 pub mod Settings
+pub mod Plan

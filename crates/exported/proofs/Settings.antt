@@ -25,7 +25,7 @@ use Rattle.moss_flash.specs.Calls.{Called, unpackOf, settingsCalled}
 use Rattle.driver.specs.Demand3.{after}
 use Rattle.exported.specs.Exports.{numberAt, exports}
 use Rattle.exported.specs.Settings.{Told, toldIn, toldOf, SettingsShown}
-use Rattle.exported.proofs.Decoding.{laid-next, shorter, digits, fold, exact-8}
+use Rattle.exported.proofs.Decoding.{laid-next, shorter, digits, low-four, exact-8}
 use Rattle.exported.proofs.Exports.{unpacks, reaches, new-packs}
 
 abbrev words : SettingsRecord → List ℕ → List ℕ
@@ -59,17 +59,7 @@ written w l h =
 -- ---- the numbers
 low-4 : (x : ℕ) → lowFirst (take 4 (le8 x)) ≡ x % 2 ^ 32
 unfolding lowFirst
-low-4 x =
-    let x1 = x / 256 in
-    let x2 = x1 / 256 in
-    let x3 = x2 / 256 in
-    let e3 : x3 % 256 + 256 * 0 ≡ x3 % 256 = omega arith in
-    let e2 : x2 % 256 + 256 * (x3 % 256) ≡ x2 % 2 ^ 16 = fold x2 256 (omega arith) in
-    let e1 : x1 % 256 + 256 * (x2 % 2 ^ 16) ≡ x1 % 2 ^ 24 = fold x1 (2 ^ 16) (omega arith) in
-    ap (λ (z : ℕ). x % 256 + 256 * (x1 % 256 + 256 * (x2 % 256 + 256 * z))) e3
-    ∙ ap (λ (z : ℕ). x % 256 + 256 * (x1 % 256 + 256 * z)) e2
-    ∙ ap (λ (z : ℕ). x % 256 + 256 * z) e1
-    ∙ fold x (2 ^ 24) (omega arith)
+low-4 x = low-four x
 
 page-in : (p q : ℕ) → p < 2 ^ 32 → lowFirst (take 4 (le8 (p + 4294967296 * q))) ≡ p
 page-in p q h = let e : (p + 4294967296 * q) % 2 ^ 32 ≡ p = omega (arith, h) in low-4 (p + 4294967296 * q) ∙ e

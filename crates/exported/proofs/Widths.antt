@@ -45,9 +45,10 @@ use Rattle.rule.proofs.Fits.{rule-fits, rule-meets}
 use Rattle.rule.proofs.Steps.{rule-phase}
 
 -- ---- the types
-record Narrow (t : EraseType) : Type 0 where
-  opcode : t .opcode < 256
-  time : t .time < 2 ^ 32
+pub record Narrow (t : EraseType) : Type 0 where
+  pub opcode : t .opcode < 256
+  pub size : t .size < 2 ^ 32
+  pub time : t .time < 2 ^ 32
 
 kept-narrow : (t : EraseType) → Narrow t → Each Narrow (kept t)
 unfolding kept
@@ -60,15 +61,15 @@ four-narrow a b c d ha hb hc hd =
     (each-append Narrow (kept a ++ kept b) (kept c) (each-append Narrow (kept a) (kept b) (kept-narrow a ha) (kept-narrow b hb)) (kept-narrow c hc)) (kept-narrow d hd)
 
 no-narrow : Narrow noType
-no-narrow = record { opcode = omega arith; time = omega arith }
+no-narrow = record { opcode = omega arith; size = omega arith; time = omega arith }
 
-single-narrow : (size opcode : ℕ) → opcode < 256 → Each Narrow (present (single size opcode))
-single-narrow size opcode h = four-narrow _ noType noType noType (record { opcode = h; time = omega arith }) no-narrow no-narrow no-narrow
+single-narrow : (size opcode : ℕ) → size < 2 ^ 32 → opcode < 256 → Each Narrow (present (single size opcode))
+single-narrow size opcode g h = four-narrow _ noType noType noType (record { opcode = h; size = g; time = omega arith }) no-narrow no-narrow no-narrow
 
 inst-narrow : (i : SFDPEraseInst) → TypedInst i → Narrow (typeOf i)
-inst-narrow i h = record { opcode = h .opcode; time = h .«time_typ» }
+inst-narrow i h = record { opcode = h .opcode; size = h .size; time = h .«time_typ» }
 
-types-narrow : (s : Session) → Whole s → Each Narrow (typesOf s)
+pub types-narrow : (s : Session) → Whole s → Each Narrow (typesOf s)
 unfolding available ofParams ofSettings
 types-narrow s w =
     let p = w .typed .params .«erase_insts» in
@@ -76,10 +77,10 @@ types-narrow s w =
     (λ e. subst (Each Narrow) (sym (sorted-present _ _ _ _))
     (sort-each Narrow _ (four-narrow _ _ _ _ (inst-narrow _ (p .inst1)) (inst-narrow _ (p .inst2)) (inst-narrow _ (p .inst3)) (inst-narrow _ (p .inst4)))))
     (λ e. by-cond (λ (ts : EraseTypes). Each Narrow (present ts)) (s .known && usable4K (s .params)) _ _
-    (λ e. single-narrow 4096 (s .params .«legacy_4kb_erase_inst») (w .typed .params .«legacy_4kb_erase_inst»))
+    (λ e. single-narrow 4096 (s .params .«legacy_4kb_erase_inst») (omega arith) (w .typed .params .«legacy_4kb_erase_inst»))
     (λ e. by-cond (λ (ts : EraseTypes). Each Narrow (present ts)) (eqb (s .settings .«erase_size») 0) _ _
     (λ e. four-narrow noType noType noType noType no-narrow no-narrow no-narrow no-narrow)
-    (λ e. single-narrow (s .settings .«erase_size») (s .settings .«erase_opcode») (w .typed .settings .«erase_opcode»))))
+    (λ e. single-narrow (s .settings .«erase_size») (s .settings .«erase_opcode») (w .typed .settings .«erase_size») (w .typed .settings .«erase_opcode»))))
 
 from-narrow : (t : EraseType) (ts : List EraseType) (pos end : ℕ) → Narrow t → Each Narrow ts → Narrow (chosenFrom t ts pos end)
 unfolding chosenFrom
@@ -87,7 +88,7 @@ from-narrow t [] pos end h g = h
 from-narrow t (u ∷ us) pos end h g =
     from-narrow (cond (beats u t pos end) u t) us pos end (by-cond Narrow (beats u t pos end) u t (λ e. g .0) (λ e. h)) (g .1)
 
-chosen-narrow : (ts : List EraseType) (pos end : ℕ) → Each Narrow ts → Narrow (chosen ts pos end)
+pub chosen-narrow : (ts : List EraseType) (pos end : ℕ) → Each Narrow ts → Narrow (chosen ts pos end)
 unfolding chosen
 chosen-narrow [] pos end g = no-narrow
 chosen-narrow (t ∷ ts) pos end g = from-narrow t ts pos end (g .0) (g .1)

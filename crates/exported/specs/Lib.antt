@@ -1,3 +1,4 @@
 pub mod Exported
 pub mod Exports
 pub mod Settings
+pub mod Plan
