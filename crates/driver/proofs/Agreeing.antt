@@ -535,7 +535,8 @@ module _ (s : Session) (now : Now) (b : List ℕ) (q : Agree s now b) (i : Idles
       (sym (ap (λ (z : Outcome). roomed (z .kept) []) keeps))
       (record {
         whole = whole;
-        bytes = each-append (λ (y : ℕ). y < 256) (x .room) (drop k buffer) (start-room c s room buffer k typed lent-bytes)
+        bytes = each-append (λ (y : ℕ). y < 256) (x .room) (drop k buffer) (start-room c s room (λ a d v e. typed .programs a d v buffer k (ap (λ (z : Call). Starts z buffer k) e))
+            (λ a d e. typed .writes a d buffer k (ap (λ (z : Call). Starts z buffer k) e)) lent-bytes)
             (drop-bytes k buffer (typed .buffer c buffer k refl));
         state = inr (record {
           runs = runs;

@@ -1,5 +1,5 @@
 -- A lent room of bytes stays one of bytes, by a start with data of bytes and by a step with a reply of bytes.
-use mathlib.Core.Path.{refl}
+use mathlib.Core.Path.{_≡_, refl}
 use mathlib.Core.Bool.{Bool}
 use mathlib.Core.List.{List, [], _∷_}
 use Prim.Native.Nat.{ℕ, zero, suc, _+_, _-_, _<_}
@@ -20,7 +20,7 @@ use Rattle.phases.specs.Moves.{readRoom, roomAfter, isEnded}
 use Rattle.flash.specs.Steps.{isFull, Taken, stepOf}
 use Rattle.flash.specs.Starts.{startRoom, beginProgram, startProgram, beginData, startProgramData, Start, stays, begins}
 use Rattle.on_part.specs.OnPart.{startOf}
-use Rattle.driver.specs.Driver.{Turn, Starts, OfBytes, Typed}
+use Rattle.driver.specs.Driver.{OfBytes}
 
 pub take-bytes : (n : ℕ) (l : List ℕ) → OfBytes l → OfBytes (take n l)
 take-bytes zero l h = tt
@@ -75,16 +75,17 @@ begun-room : (b : Start) (d room : List ℕ) → OfBytes d → OfBytes room → 
 begun-room (stays x) d room g h = h
 begun-room (begins at s) d room g h = laid-bytes at d room g h
 
-pub start-room : (c : Call) (s : Session) (room l : List ℕ) (k : ℕ) → Typed (Starts c l k) → OfBytes room → OfBytes (startOf c s room .room)
+pub start-room : (c : Call) (s : Session) (room : List ℕ) → ((a : ℕ) (d : List ℕ) (v : Bool) → c ≡ Program a d v → OfBytes d)
+    → ((a : ℕ) (d : List ℕ) → c ≡ ProgramData a d → OfBytes d) → OfBytes room → OfBytes (startOf c s room .room)
 unfolding startProgram startProgramData
-start-room (Read a n) s room l k t h = h
-start-room (LegacyRead a n) s room l k t h = h
-start-room ReadParams s room l k t h = h
-start-room Erase s room l k t h = h
-start-room (EraseSectors a n) s room l k t h = h
-start-room (Program a d v) s room l k t h = begun-room (beginProgram s a (length d) v (length room)) d room (t .programs a d v l k refl) h
-start-room (ProgramData a d) s room l k t h = begun-room (beginData s a (length d) (length room)) d room (t .writes a d l k refl) h
-start-room Reset s room l k t h = h
-start-room ReadJedecId s room l k t h = h
-start-room IsBusy s room l k t h = h
-start-room IsProtected s room l k t h = h
+start-room (Read a n) s room p w h = h
+start-room (LegacyRead a n) s room p w h = h
+start-room ReadParams s room p w h = h
+start-room Erase s room p w h = h
+start-room (EraseSectors a n) s room p w h = h
+start-room (Program a d v) s room p w h = begun-room (beginProgram s a (length d) v (length room)) d room (p a d v refl) h
+start-room (ProgramData a d) s room p w h = begun-room (beginData s a (length d) (length room)) d room (w a d refl) h
+start-room Reset s room p w h = h
+start-room ReadJedecId s room p w h = h
+start-room IsBusy s room p w h = h
+start-room IsProtected s room p w h = h

@@ -13,7 +13,7 @@ use Rattle.nor_model.specs.Replay.{replay}
 use Rattle.nor_model.proofs.Instances.{odd, oddActs}
 use Rattle.on_part.proofs.Instances.{start, odd-premises}
 use Rattle.over_bytes.specs.OverBytes.{TypedAct}
-use Rattle.over_bytes.proofs.Rooms.{OfBytes}
+use Rattle.driver.specs.Driver.{OfBytes}
 use Rattle.over_bytes.proofs.Keeping.{packed, AllKept, all-kept, fresh-whole}
 
 zeros : (n : ℕ) → OfBytes (replicate n 0)

@@ -20,7 +20,7 @@ use Rattle.on_part.proofs.Serving.{served-bytes}
 use Rattle.on_part.proofs.Instances.{cameTo, Premises}
 use Rattle.on_part.proofs.Keeping.{relent, command-kept, command-then, setter-then, setter-idle}
 use Rattle.over_bytes.specs.OverBytes.{Back, Served, served, ranOf, Stand, nowOf, after, setIn, Kept, Keeps, TypedCall, TypedAct, Demand3OverBytes}
-use Rattle.over_bytes.proofs.Rooms.{OfBytes}
+use Rattle.driver.specs.Driver.{OfBytes}
 use Rattle.over_bytes.proofs.Through.{back, set-is, set-whole, packs, packsSome, WholeSome, served-through}
 
 -- where a sequence stands by value, packed

@@ -1,4 +1,3 @@
-pub mod Rooms
 pub mod Through
 pub mod Keeping
 pub mod Instances

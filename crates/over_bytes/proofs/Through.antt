@@ -27,7 +27,9 @@ use Rattle.on_part.specs.OnPart as Value
 use Rattle.on_part.specs.OnPart.{startOf, setterOf}
 use Rattle.on_part.proofs.Serving.{each-below, Replied}
 use Rattle.over_bytes.specs.OverBytes.{unpackOf, Back, packedOf, startBytes, setBytes, stepBytes, Served, behind, serve, served, TypedCall, TypedSetter}
-use Rattle.over_bytes.proofs.Rooms.{OfBytes, step-room, start-room}
+use Rattle.driver.specs.Driver.{OfBytes}
+use Rattle.driver.proofs.Rooms.{step-room, start-room}
+use Rattle.driver.proofs.Agreeing.{start-whole}
 
 -- ---- the bytes of a session that the driver hands back unpack to it
 pub back : (s : Session) → Whole s → sessionIn (bytesOf s) ≡ s
@@ -53,19 +55,6 @@ unfolding setBytes
 set-is a s h = rw (unpacks s h, setBytes)
 
 -- ---- what is handed back can be packed again
-start-whole : (c : Call) (s : Session) (room : List ℕ) → Whole s → Whole (startOf c s room .out .session)
-start-whole (Read a n) s room h = keeps-whole .reads s h _ _ _ _
-start-whole (LegacyRead a n) s room h = keeps-whole .reads s h _ _ _ _
-start-whole ReadParams s room h = keeps-whole .readsParams s h _
-start-whole Erase s room h = keeps-whole .erases s h
-start-whole (EraseSectors a n) s room h = keeps-whole .erasesSectors s h _ _
-start-whole (Program a d v) s room h = keeps-whole .programs s h _ _ _ _
-start-whole (ProgramData a d) s room h = keeps-whole .programsData s h _ _ _
-start-whole Reset s room h = keeps-whole .resets s h
-start-whole ReadJedecId s room h = keeps-whole .readsId s h
-start-whole IsBusy s room h = keeps-whole .tellsBusy s h
-start-whole IsProtected s room h = keeps-whole .tellsProtected s h
-
 pub set-whole : (a : Setter) (s : Session) → TypedSetter a → Whole s → Whole (setterOf a s .session)
 set-whole (AddressBytes n) s t h = keeps-whole .setsAddressBytes s h n
 set-whole (PageSize n) s t h = keeps-whole .setsPageSize s h n
@@ -179,7 +168,7 @@ module _ (p : Part) (times : Times) where
   unfolding Agree
   served-through state s c room w t b h =
       let g : Agree (most c (keptOf s room)) [] state (startOf c s room) =
-      through (most c (keptOf s room)) [] state (startOf c s room) (start-whole c s room w) (start-room c s room t b) h in (
+      through (most c (keptOf s room)) [] state (startOf c s room) (start-whole c s room w) (start-room c s room (λ a d v e. subst TypedCall e t) (λ a d e. subst TypedCall e t) b) h in (
         ap (λ (z : Session). serve p times (most c (keptOf z room)) [] state (startBytes c (bytesOf s) room)) (back s w)
             ∙ ap (serve p times (most c (keptOf s room)) [] state) (start-is c s room w)
             ∙ g .0,
