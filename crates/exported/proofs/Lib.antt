@@ -4,3 +4,4 @@ pub mod Widths
 pub mod Exports
 pub mod Settings
 pub mod Plan
+pub mod Demand3
