@@ -511,6 +511,7 @@ const char *moss_flash_host_answer_name(uint8_t answer)
         return names[answer];
     switch (answer) {
     case MOSS_FLASH_SEND: return "Send";
+    case MOSS_FLASH_NO_FORM: return "NoForm";
     case MOSS_FLASH_HOST_KEPT: return "Kept";
     case MOSS_FLASH_HOST_OVERLAP: return "Overlap";
     default: return "unknown";

@@ -122,7 +122,8 @@ uint8_t moss_flash_host_restore(struct moss_flash_host *h, uint8_t verify, uint8
 void moss_flash_host_forget(struct moss_flash_host *h);
 
 /* Carries a command on to its answer. begun: what its start gave. work: its working or out buffer, as long as the start
- * was told. For firmware that calls the starts of moss_flash.h itself. */
+ * was told. For firmware that calls the starts of moss_flash.h itself; what a program that breaks off here leaves is not
+ * kept in touched and kept. */
 uint8_t moss_flash_host_run(struct moss_flash_host *h, uint8_t begun, uint8_t *work, size_t work_len);
 
 /* An answer's name, for a log. */
