@@ -3,3 +3,4 @@ pub mod Simulating
 pub mod Rooms
 pub mod Agreeing
 pub mod Reaching
+pub mod Worked
