@@ -1,5 +1,5 @@
 /*
- * sim_part.h: a flash part in memory, as document 01 models it, for tests and for a look at the driver without hardware.
+ * sim_part.h: a flash part in memory, as docs/SCOPE.md models it, for tests and for a look at the driver without hardware.
  *
  * It has memory, a write latch and a number of busy polls left. 06 sets the latch. A block erase sets its block to FF, 02
  * ANDs each byte and wraps in the device page, C7 sets all to FF; each needs the latch and clears it. 05 shows busy in bit

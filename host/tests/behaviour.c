@@ -218,7 +218,7 @@ static void expect_run(struct rig *g, int command, uint8_t answer, const char *t
     check_repeats(g, now);
 }
 
-/* Document 01's whole list. */
+/* docs/SCOPE.md's whole list. */
 static void test_whole_list(void)
 {
     static const uint8_t two[] = {1, 2};

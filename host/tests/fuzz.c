@@ -7,7 +7,7 @@
  * and has guard bytes before it; the result is in the table; what is lent for reading is as before; after 5, 6, 7, 10, 11
  * and 13 so is all else but the event record; an event record has its form; what is handed back is accepted, and what is
  * accepted is packed again to the same bytes. Besides, whole commands are run with random replies and must end within
- * document 01's bounds.
+ * docs/SCOPE.md's bounds.
  */
 #define _DEFAULT_SOURCE
 #include <stdio.h>
@@ -395,7 +395,7 @@ static void one_call(void)
         renew();
 }
 
-/* ---- whole commands: random settings and replies, and document 01's bounds */
+/* ---- whole commands: random settings and replies, and docs/SCOPE.md's bounds */
 
 struct bounded {
     int which;

@@ -1,7 +1,7 @@
 /*
  * Replays runs.bin, 4,096 runs of the Rust's commands, through the archive: the same settings, arguments and replies; the
  * answer with its numbers, every transaction, the polls, the bytes read and the settings compared. docs/ORACLE.md has the
- * record, the rules of the replies and the classes on which the Rust and document 01 part. The program replay_runs does the
+ * record, the rules of the replies and the classes on which the Rust and docs/SCOPE.md part. The program replay_runs does the
  * same from inside; both print the same lines.
  *
  *   replay crates/replay_runs/data/runs.bin
@@ -338,7 +338,7 @@ static int given(int holds, int class)
     return holds ? class : UNLISTED;
 }
 
-/* Whether document 01 refuses a range. */
+/* Whether docs/SCOPE.md refuses a range. */
 static int is_refused(const uint8_t *t, uint64_t address, uint64_t length)
 {
     uint64_t reach = (uint64_t)1 << 8 * moss_flash_settings_address_bytes(t);
@@ -587,7 +587,7 @@ static const struct line lines[] = {
     {S5, "S5 access protocol byte not FF, the Rust finds no SFDP: "},
     {S7, "S7 the smallest size twice, the Rust takes the first opcode: "},
     {UNLISTED, "differ and are on no list: "},
-    {WRONG, "ours is not what document 01's rules give: "},
+    {WRONG, "ours is not what docs/SCOPE.md's rules give: "},
 };
 
 int main(int argc, char **argv)

@@ -47,7 +47,7 @@ pub enum Setter {
 }
 
 impl Setter {
-    /// Document 01's limits.
+    /// docs/SCOPE.md's limits.
     pub fn is_taken(&self) -> bool {
         match *self {
             Setter::AddressBytes(n) => (1..=4).contains(&n),
@@ -166,7 +166,7 @@ pub struct Entry {
     pub time: Option<u64>,
 }
 
-/// Numbers beside document 01's answers.
+/// Numbers beside docs/SCOPE.md's answers.
 pub const PANIC: u8 = 255;
 /// The access was cut off: the Rust polls on.
 pub const CUT: u8 = 254;

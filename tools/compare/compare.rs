@@ -1,7 +1,7 @@
 //! Compares the archive for C with the Rust of spi-flash 0.4.0, case by case. tools/compare/run says how it is run.
 //!
 //! A session is a fresh driver on both sides and up to eight cases, each setters and one command from a state that both sides
-//! are in. Three outcomes are held against each other: ours, the Rust's, and that of document 01's rules (rules.rs). Ours must
+//! are in. Three outcomes are held against each other: ours, the Rust's, and that of docs/SCOPE.md's rules (rules.rs). Ours must
 //! equal the rules in every case. Where the Rust does not, it must equal the rules with its listed slips, and the case is in
 //! the class of the first slip that it met. Anything else is on no list, and the run fails.
 mod areas;
@@ -67,7 +67,7 @@ struct Played {
     by_01: Outcome,
     ours: Outcome,
     rust: Outcome,
-    /// Where the Rust is not by document 01: the rules with its slips, and the first slip.
+    /// Where the Rust is not by docs/SCOPE.md: the rules with its slips, and the first slip.
     slipped: Option<(Outcome, Option<Class>)>,
 }
 
@@ -81,7 +81,7 @@ impl Played {
         let mut out = Vec::new();
         let unlike = self.ours.unlike(&self.by_01);
         if !unlike.is_empty() {
-            out.push(format!("ours is not by document 01: {}", unlike.join(", ")));
+            out.push(format!("ours is not by docs/SCOPE.md: {}", unlike.join(", ")));
         }
         if self.by_01.number >= ODD {
             out.push("a case that is too large".to_string());

@@ -1,6 +1,6 @@
-//! Document 01's commands, straight through. Beside each rule that the Rust breaks stands the class of docs/DIFFERENCES.md and
-//! the Rust's way, which is taken if `rust` is set. So a run gives document 01's outcome, which ours must equal in every case;
-//! or document 01's outcome with the listed slips, which the Rust must equal in every case, and the class of the first
+//! docs/SCOPE.md's commands, straight through. Beside each rule that the Rust breaks stands the class of docs/DIFFERENCES.md and
+//! the Rust's way, which is taken if `rust` is set. So a run gives docs/SCOPE.md's outcome, which ours must equal in every case;
+//! or docs/SCOPE.md's outcome with the listed slips, which the Rust must equal in every case, and the class of the first
 //! slip that was met.
 use crate::case::{Case, Entry, Kind, Outcome, Params, Setter, State, CUT, PANIC};
 use crate::classes::Class;
@@ -293,7 +293,7 @@ impl<'a> Rules<'a> {
         }
     }
 
-    /// Document 01 checks the span before anything is read; the Rust when it reads what is after the data.
+    /// docs/SCOPE.md checks the span before anything is read; the Rust when it reads what is after the data.
     fn check_span(&mut self, base: u32, top: u64, case: &Case) -> Run<()> {
         let end = case.address as u64 + case.length;
         let class = if end < 1 << 32 { Class::C4 } else { Class::C3 };
@@ -491,7 +491,7 @@ fn of_params(params: &Params) -> Vec<Type> {
     types
 }
 
-/// Whether document 01 refuses a range.
+/// Whether docs/SCOPE.md refuses a range.
 pub fn refused(state: &State, address: u32, length: u64) -> bool {
     let end = address as u128 + length as u128;
     let settings = &state.settings;
@@ -505,7 +505,7 @@ pub fn span(plan: &[Entry]) -> (u32, u64) {
     (plan[0].base, last.base as u64 + last.size)
 }
 
-/// Document 01's plan. The types are sorted.
+/// docs/SCOPE.md's plan. The types are sorted.
 pub fn plan_of(types: &[Type], address: u32, length: u64) -> Vec<Entry> {
     let end = address as u64 + length;
     let mut at = address as u64;

@@ -92,7 +92,7 @@ fn command(case: &Case) -> String {
     }
 }
 
-/// The replies that a run by the rules gets: document 01's way, or the Rust's.
+/// The replies that a run by the rules gets: docs/SCOPE.md's way, or the Rust's.
 fn replies(case: &Case, state: &State, noise: &Rc<Vec<u8>>, rust: bool) -> Vec<Option<Vec<u8>>> {
     let mut wire = Wire::new(noise);
     wire.kept = Some(Vec::new());

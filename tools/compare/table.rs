@@ -1,4 +1,4 @@
-//! Document 01's reading of the basic parameter table, with the Rust's slips beside it.
+//! docs/SCOPE.md's reading of the basic parameter table, with the Rust's slips beside it.
 use crate::case::{Inst, Params};
 use crate::classes::Class;
 use crate::rules::{panics, End, Rules, Run};

@@ -107,7 +107,7 @@ impl Log {
         self.list[i].wanted == 1 && matches!(self.sent(i), [0x05] | [0x70])
     }
 
-    /// The status polls, as document 01 counts them: a 05 right after a read is the one after a mismatch.
+    /// The status polls, as docs/SCOPE.md counts them: a 05 right after a read is the one after a mismatch.
     pub fn polls(&self) -> u64 {
         let after_read = |i: usize| i > 0 && self.sent(i - 1)[0] == 0x0B && self.list[i - 1].wanted > 0;
         (0..self.list.len()).filter(|&i| self.is_status(i) && !(self.sent(i) == [0x05] && after_read(i))).count() as u64

@@ -1,5 +1,5 @@
 #!/usr/bin/env python3
-"""Compares the lists with document 01's rules (rules.py) and counts every difference.
+"""Compares the lists with docs/SCOPE.md's rules (rules.py) and counts every difference.
 
     tools/oracle/compare.py            the lists alone
     tools/oracle/compare.py --search   also puts questions to the oracle: all small inputs, plans for the
@@ -97,7 +97,7 @@ def parts_against_rules():
     for record in parts:
         if pack_answer(*read_area(record[:896])) != record[896:]:
             wrong += 1
-    print("parts.bin: %d parts, %d differ from document 01's rules" % (len(parts), wrong))
+    print("parts.bin: %d parts, %d differ from docs/SCOPE.md's rules" % (len(parts), wrong))
     assert wrong == 0
 
 

@@ -20,7 +20,7 @@ def near(value, top, spread=2):
 
 
 def chosen():
-    """The cases that document 01 names, and the smallest of every difference."""
+    """The cases that docs/SCOPE.md names, and the smallest of every difference."""
     yield 3, None, 0, 16777216
     yield 3, None, 0, 16777217
     for address_bytes in (1, 2, 3, 4):

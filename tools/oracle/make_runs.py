@@ -2,7 +2,7 @@
 """Makes runs.bin: 4,096 runs of the Rust's commands over replies by rule, with a digest of what it sent.
 
 It reads sfdp.bin, so make_sfdp.py comes first. docs/ORACLE.md gives the record; run_rules.py has the rules. The same bytes
-come out every time. At the end it holds each run against document 01's rules and counts the classes.
+come out every time. At the end it holds each run against docs/SCOPE.md's rules and counts the classes.
 """
 import struct
 import sys

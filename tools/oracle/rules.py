@@ -1,6 +1,6 @@
-"""Document 01's rules for ranges, plans and SFDP reading, and the Rust's known departures from them.
+"""docs/SCOPE.md's rules for ranges, plans and SFDP reading, and the Rust's known departures from them.
 
-Every function takes `slips`, the set of departures to make. With no slips it is document 01; with all
+Every function takes `slips`, the set of departures to make. With no slips it is docs/SCOPE.md; with all
 of them it is meant to equal the Rust, and compare.py checks that it does.
 """
 

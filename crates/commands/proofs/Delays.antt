@@ -1,4 +1,4 @@
--- A worked run with parameters, written out from document 01: read_params, then a program with delays, polled by flag status.
+-- A worked run with parameters, written out from docs/SCOPE.md: read_params, then a program with delays, polled by flag status.
 use mathlib.Core.Path.{_≡_, refl}
 use mathlib.Core.Bool.{true, false}
 use mathlib.Core.List.{List, [], _∷_, _++_}

@@ -1,4 +1,4 @@
--- Worked runs, computed by the definitions. The first is that of document 01.
+-- Worked runs, computed by the definitions. The first is that of docs/SCOPE.md.
 use mathlib.Core.Path.{_≡_, refl}
 use mathlib.Core.Bool.{true, false}
 use mathlib.Core.List.{List, [], _∷_}
@@ -71,7 +71,7 @@ pub run : (p : FlashParams)
 unfolding tree play full tally pollsIn after over each program acceptedRange available ofSettings present kept plan planIn nextPos entryAt chosen chosenFrom beats cover blockBase blockEnd spanStart spanEnd byFlag ready polls byteAt pageDelay pageOf toPageEnd partsIn parts blank written
 run p = (refl, refl, refl)
 
--- the whole list as document 01 prints it
+-- the whole list as docs/SCOPE.md prints it
 pub run-wire : onWire list
     ≡ (0x0B ∷ 0x00 ∷ 0x01 ∷ 0x02 ∷ 0x00 ∷ [], 254)
     ∷ (0x06 ∷ [], 0)

@@ -1,4 +1,4 @@
--- The bounds of document 01.
+-- The bounds of docs/SCOPE.md.
 use mathlib.Core.Path.{_≡_, refl, sym, ap}
 use mathlib.Core.Bool.{Bool, true, false, cond, _&&_, _||_, not}
 use mathlib.Core.Logic.{⊎-elim}

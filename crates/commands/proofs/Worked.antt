@@ -21,7 +21,7 @@ use Rattle.commands.specs.Transactions.{plain, at, fastRead, readData, r
 use Rattle.commands.specs.Commands.{badRange, read, legacyRead, readParams, erase, eraseSectors, programData, reset, readJedecId, firstId, isBusy, isProtected}
 use Rattle.commands.proofs.Examples.{settings, started, poll1, part, Ran, outcome}
 
--- the settings of document 01's list, with a room of four bytes
+-- the settings of docs/SCOPE.md's list, with a room of four bytes
 abbrev pub four : FlashParams → Kept
 four p = roomed (started p) (0 ∷ 0 ∷ 0 ∷ 0 ∷ [])
 

@@ -1,4 +1,4 @@
--- Document 01's number of each answer.
+-- The number of each answer (docs/SCOPE.md, Answer numbers).
 use Prim.Native.Nat.{ℕ}
 use Rattle.commands.specs.declared.Answer.{Answer}
 use Rattle.commands.specs.declared.Answer.the-variants.{Done, DoneBool, DoneId, ReadbackError, InvalidManufacturer, InvalidSFDPHeader, InvalidSFDPParams, InvalidAddress, NoResetInstruction, NoEraseInstruction, Access, Busy, BadSetting, NoRoom, NoSFDP, BadSession}

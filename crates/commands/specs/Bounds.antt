@@ -15,7 +15,7 @@ use Rattle.commands.specs.Commands.{planOf, written, Job, jobOf}
 use Rattle.commands.specs.Calls.{Call, Read, LegacyRead, ReadParams, Erase, EraseSectors, Program, ProgramData, Reset, ReadJedecId, IsBusy, IsProtected, script}
 use Rattle.commands.specs.Leaves.{gathered}
 
--- ---- the numbers of document 01
+-- ---- the numbers of docs/SCOPE.md, Commands as transactions
 abbrev pub limit : Kept → ℕ
 limit w = w .settings .«poll_limit»
 

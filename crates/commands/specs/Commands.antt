@@ -1,4 +1,4 @@
--- Each command of document 01: what it checks, in order, what it sends, and how it ends.
+-- Each command of docs/SCOPE.md, Commands as transactions: what it checks, in order, what it sends, and how it ends.
 use mathlib.Core.Bool.{Bool, true, false, cond, _&&_, _||_, not}
 use mathlib.Core.List.{List, [], _∷_, _++_}
 use mathlib.Core.Option.{Option, some, none}

@@ -1,4 +1,4 @@
--- The transactions of document 01, and the polls.
+-- The transactions of docs/SCOPE.md, Commands as transactions, and the polls.
 use mathlib.Core.Bool.{Bool, true, false, cond, _&&_, not}
 use mathlib.Core.List.{List, [], _∷_, _++_}
 use Prim.Native.Nat.{ℕ, zero, suc, _+_, _-_, _*_, _/_, _%_, _^_, min}

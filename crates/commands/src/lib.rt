@@ -28,7 +28,7 @@ pub enum Answer {
 }
 
 impl Answer {
-    // Document 01's answer number.
+    // docs/SCOPE.md's answer number.
     pub fn number(self) -> u8
         ensures { λ r. ⌜ r ≡ numberOf self ⌝ }
     {

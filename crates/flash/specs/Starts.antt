@@ -1,4 +1,4 @@
--- The starts: 13 while a command runs, the refusals in 01's order, else the command's first transaction.
+-- The starts: 13 while a command runs, the refusals in the order of docs/SCOPE.md, Answer numbers, else the command's first transaction.
 use Prim.Native.Nat.{ℕ, _+_, _-_}
 use mathlib.Core.Bool.{Bool, false, cond, not, _&&_, _||_}
 use mathlib.Core.List.{List}

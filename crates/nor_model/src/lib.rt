@@ -1,1 +1,1 @@
-// The modelled part of document 01, and that the commands do on it what they should: definitions and theorems alone, no code.
+// The modelled part of docs/SCOPE.md, and that the commands do on it what they should: definitions and theorems alone, no code.

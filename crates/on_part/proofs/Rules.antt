@@ -1,4 +1,4 @@
--- What document 01 says of a session between the transactions holds.
+-- What docs/SCOPE.md says of a session between the transactions holds.
 use mathlib.Core.Path.{_≡_, refl, sym, ap, _∙_}
 use mathlib.Core.Bool.{Bool, true, false}
 use mathlib.Core.List.{List}

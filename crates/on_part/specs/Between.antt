@@ -1,4 +1,4 @@
--- What document 01 says of a session between the transactions: 13 while a command runs, refusals, 11 at a step, an ended command, a
+-- What docs/SCOPE.md, Answer numbers, says of a session between the transactions: 13 while a command runs, refusals, 11 at a step, an ended command, a
 -- fresh session.
 use mathlib.Core.Path.{_≡_}
 use mathlib.Core.Bool.{Bool, true, false}

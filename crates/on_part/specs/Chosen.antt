@@ -1,4 +1,4 @@
--- The chosen examples of document 01, as one table.
+-- The chosen examples of docs/SCOPE.md, as one table.
 use mathlib.Core.Path.{_≡_}
 use mathlib.Core.Bool.{false}
 use mathlib.Core.List.{[], _∷_}

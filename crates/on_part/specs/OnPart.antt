@@ -69,7 +69,7 @@ serve p times (suc k) past state x room =
           behind u (serve p times k (wire u ∷ past) (y .0) (z .out) (z .room))
     ]
 
--- a command from its start to its answer, in at most the transactions that document 01 allows it
+-- a command from its start to its answer, in at most the transactions that docs/SCOPE.md allows it
 abbrev pub served : Part → Times → State → Session → Call → List ℕ → Option Served
 served p times state s c room =
     serve p times (most c (keptOf s room)) [] state (startOf c s room .out) (startOf c s room .room)

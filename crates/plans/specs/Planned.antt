@@ -24,7 +24,7 @@ typesFor q = present (available (q .settings) (q .known) (q .params))
 unfoldable pub planFor : PlanQuery → List EraseEntry
 planFor q = plan (typesFor q) (q .address) (q .address + q .length)
 
--- ---- the answers, as document 01 numbers them
+-- ---- the answers, as docs/SCOPE.md, Answer numbers, has them
 -- 0, done: how many entries were written
 abbrev pub done : ℕ → Planned
 done n = record { number = 0; last = 0; count = n }

@@ -1,7 +1,7 @@
 // Replays runs.bin, 4,096 runs of the Rust's commands, against the proved driver: the same settings, arguments and replies, and
 // the answer, the number of transactions and polls, the digest of all that was sent, the bytes read and the settings compared.
-// Ours is also held to document 01's rules as tools/oracle/run_rules.py has them, for all records.
-// Where the Rust parts from document 01 the record is counted under its class. docs/ORACLE.md has the records and the classes.
+// Ours is also held to docs/SCOPE.md's rules as tools/oracle/run_rules.py has them, for all records.
+// Where the Rust parts from docs/SCOPE.md the record is counted under its class. docs/ORACLE.md has the records and the classes.
 mod classes;
 mod digest;
 mod judge;
@@ -166,6 +166,9 @@ fn main() {
     show_ranges(t);
     show_sfdp(t);
     tallies::show_unlisted(t);
-    line(b"ours is not what document 01's rules give: ", t.of(WRONG));
+    line(
+        b"ours is not what docs/SCOPE.md's rules give: ",
+        t.of(WRONG),
+    );
     tallies::show_first(t);
 }

@@ -1,5 +1,5 @@
 // Replays two lists against the proved reader of SFDP areas and compares every field.
-// sfdp.bin: what the Rust made of 4,096 areas. Where it parts from document 01 the record is counted under its class.
+// sfdp.bin: what the Rust made of 4,096 areas. Where it parts from docs/SCOPE.md the record is counted under its class.
 // parts.bin: the areas of real parts and their decoded values; all must agree.
 // docs/ORACLE.md has the records and the classes.
 mod fields;

@@ -39,7 +39,7 @@ refusal-stored : ruleOf (ends fresh 0 Ends.Other BadSession) ≡ false
 unfolding ruleOf all settingsRule phaseRule endRule otherEnds
 refusal-stored = refl
 
--- document 01's whole list: its settings, and its program, which runs
+-- docs/SCOPE.md's whole list: its settings, and its program, which runs
 listed : Session
 listed = withSettings fresh (record { «address_bytes» = 3; «capacity_set» = true; capacity = 1024; «page_size» = 256; «erase_size» = 256; «erase_opcode» = 0x20; «poll_limit» = 65535 })
 

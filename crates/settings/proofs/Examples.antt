@@ -1,4 +1,4 @@
--- Examples of document 01, and of a table that is read.
+-- Examples of docs/SCOPE.md, and of a table that is read.
 use mathlib.Core.Path.{_≡_, refl}
 use mathlib.Core.Bool.{true, false}
 use Prim.Native.Nat.{ℕ}

@@ -134,7 +134,7 @@ sum-free a n limit h = by (leb n (limit - a)) refl
 pub reach-four : (bytes : ℕ) → 4 ≤ bytes → 4294967296 ≡ reach bytes
 reach-four bytes h = sym (ap (λ (k : ℕ). 256 ^ k) (min-eq-right h))
 
--- within the limits it is 256 to the power of the address bytes, as document 01 says
+-- within the limits it is 256 to the power of the address bytes, as docs/SCOPE.md says
 pub reach-sound : (s : Settings) → Sound s → reach (s .«address_bytes») ≡ 256 ^ s .«address_bytes»
 reach-sound s sound = ap (λ (k : ℕ). 256 ^ k) (min-eq-left (sound .address .1))
 
@@ -176,7 +176,7 @@ accepted-of s a n h r c = rw (le-leb 1 n h, le-leb (a + n) (reach (s .«address_
     by true k = le-leb (a + n) (s .capacity) (k refl)
     by false k = refl
 
--- for settings within their limits this is document 01's sentence
+-- for settings within their limits this is docs/SCOPE.md's sentence
 pub accepted-exactly : (s : Settings) (a n : ℕ) → Sound s → (acceptedRange s a n ≡ true) ↔ ((1 ≤ n) × (a + n ≤ 256 ^ s .«address_bytes») × (s .«capacity_set» ≡ true → a + n ≤ s .capacity))
 accepted-exactly s a n sound =
     (λ h. (accepted-nonempty s a n h, subst (λ (k : ℕ). a + n ≤ k) (reach-sound s sound) (accepted-reach s a n h), accepted-capacity s a n h), λ k. accepted-of s a n (k .0) (subst (λ (m : ℕ). a + n ≤ m) (sym (reach-sound s sound)) (k .1)) (k .2))

@@ -1,4 +1,4 @@
--- The settings of document 01: defaults, limits, setters. A page size or erase size of 0 is one that is not set.
+-- The settings of docs/SCOPE.md, Settings limits: defaults, limits, setters. A page size or erase size of 0 is one that is not set.
 use Prim.Native.Nat.{ℕ, _≤_}
 use mathlib.Core.Path.{_≡_}
 use mathlib.Core.Bool.{Bool, true, false, cond, _&&_}

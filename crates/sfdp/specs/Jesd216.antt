@@ -1,4 +1,4 @@
--- JESD216's basic parameter table as document 01 gives it: dword, bits, meaning, in the standard's order.
+-- JESD216's basic parameter table as docs/SCOPE.md, SFDP reading, gives it: dword, bits, meaning, in the standard's order.
 use Prim.Native.Nat.{ℕ, _+_, _*_, _^_}
 use mathlib.Core.List.{List}
 use mathlib.Core.Bool.{Bool, true, false, cond, _&&_, _||_}

@@ -677,7 +677,7 @@ pub fn read_area(area: &[u8]) -> ReadArea
 }
 
 impl ReadArea {
-    // Document 01's answer number.
+    // docs/SCOPE.md's answer number.
     pub fn number(self) -> u8
         ensures { λ r. ⌜ r ≡ answerNumber self ⌝ }
     {

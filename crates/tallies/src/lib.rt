@@ -6,7 +6,7 @@ use libc::STDOUT_FILENO;
 pub const SAME: u8 = 0;
 // A difference that is on no list.
 pub const UNLISTED: u8 = 30;
-// Not what document 01's rules in tools/oracle give.
+// Not what docs/SCOPE.md's rules in tools/oracle give.
 pub const WRONG: u8 = 31;
 
 // What comes next in a list: no record, or one of a class.
