@@ -184,7 +184,7 @@ fn fold_entry(e: EraseEntry) -> u64 {
 }
 
 // A walk along a plan: whether it goes on, from where, whether that is known to be a multiple of every size, and the entries so far, folded.
-#[derive(Drop)]
+#[derive(Clone, Copy)]
 pub struct Walk {
     pub going: bool,
     pub at: u32,

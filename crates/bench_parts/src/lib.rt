@@ -1,4 +1,6 @@
 // What tools/bench calls: the parts of a step that have a line of their own. For the benchmark alone.
+#![tactic(auto)]
+
 use flash::Session;
 use moss_flash::Unpacked;
 

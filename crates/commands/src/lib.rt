@@ -5,7 +5,7 @@ ghost use Rattle.commands.specs.Answers.{number_of};
 use settings::BadRange;
 
 // The answers, under the Rust's names where it has one.
-#[derive(Drop)]
+#[derive(Clone, Copy)]
 pub enum Answer {
     Done,
     // Done with a yes or no: is_busy, is_protected.

@@ -9,7 +9,7 @@ use files::Part;
 use show::Listing;
 
 // How it stands, or why it broke off.
-#[derive(Drop)]
+#[derive(Clone, Copy)]
 pub enum Stand {
     Going {
         first_ended: bool,
@@ -22,7 +22,7 @@ pub enum Stand {
     TooLong,
 }
 
-#[derive(Drop)]
+#[derive(Clone, Copy)]
 pub struct State {
     pub comparison: Comparison,
     pub listing: Listing,
@@ -30,7 +30,7 @@ pub struct State {
 }
 
 // Two open files.
-#[derive(Drop)]
+#[derive(Clone, Copy)]
 pub struct Pair {
     pub first: i32,
     pub second: i32,

@@ -3,7 +3,7 @@ use dump_runs::Run;
 use libc::STDOUT_FILENO;
 
 // What was listed so far; how many bytes of the space wait to go out, and whether some could not.
-#[derive(Drop)]
+#[derive(Clone, Copy)]
 pub struct Listing {
     pub runs: u64,
     pub bytes: u64,

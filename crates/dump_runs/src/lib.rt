@@ -4,14 +4,14 @@ ghost use Rattle.dump_runs.specs.Blocks.{blocks_of};
 ghost use Rattle.dump_runs.specs.Steps.{most, begun, goes_on, too_long, scan_of, next_of, open_of, tail_of};
 
 // A stretch of bytes. Length 0: none.
-#[derive(Drop)]
+#[derive(Clone, Copy)]
 pub struct Run {
     pub start: u64,
     pub len: u64,
 }
 
 // The blocks from first on, so many of them.
-#[derive(Drop)]
+#[derive(Clone, Copy)]
 pub struct Blocks {
     pub first: u64,
     pub count: u64,
@@ -19,7 +19,7 @@ pub struct Blocks {
 
 // How far two dumps are compared: the run that is open at the end of what both had, with the bytes that it has so far, and
 // how many bytes the first and the second dump had past that.
-#[derive(Drop)]
+#[derive(Clone, Copy)]
 pub struct Comparison {
     pub start: u64,
     pub len: u64,
@@ -28,7 +28,7 @@ pub struct Comparison {
 }
 
 // What comes next in two parts.
-#[derive(Drop)]
+#[derive(Clone, Copy)]
 pub enum Next {
     // A run has ended: ask again, in the same parts, from next on.
     Found {

@@ -1,4 +1,6 @@
 // Which blocks are erased so that a range is erased: the types of erase, one entry at a time, and the whole plan's size.
+#![tactic(auto)]
+
 ghost use Rattle.std.specs.Prelude.{◌≡◌, ℕ, ◌+◌, ◌<◌, ◌≤◌, true, ◌||◌, List, [], ◌∷◌, ◌++◌, ◌==◌};
 ghost use Rattle.erase_plan.specs.Types.{four_of, in_order, kept, present, slots, sort, sorted_of, time_rank};
 ghost use Rattle.erase_plan.specs.Plan.{block_base, entry_from, next_of, plan};
@@ -10,7 +12,7 @@ ghost use Rattle.erase_plan.specs.Marks.{is_power, is_single, are_powers, is_eve
 ghost use Rattle.erase_plan.specs.Passing.{Passed, walk_over};
 
 // One available erase type. size 0: no such type. timed: whether the typical time is known; time is 0 where it is not.
-#[derive(Drop)]
+#[derive(Clone, Copy)]
 pub struct EraseType {
     pub size: u32,
     pub opcode: u8,
@@ -19,7 +21,7 @@ pub struct EraseType {
 }
 
 // At most four types, sorted by size, opcode, time, an absent time first; the missing ones last, all zero.
-#[derive(Drop)]
+#[derive(Clone, Copy)]
 pub struct EraseTypes {
     pub t1: EraseType,
     pub t2: EraseType,
@@ -29,7 +31,7 @@ pub struct EraseTypes {
 
 // One entry of a plan. timed is 0 or 1.
 #[repr(C)]
-#[derive(Drop)]
+#[derive(Clone, Copy)]
 pub struct EraseEntry {
     pub opcode: u8,
     pub timed: u8,
@@ -39,14 +41,14 @@ pub struct EraseEntry {
 }
 
 // What comes next in a plan: nothing, or an entry, with the last wanted byte that it covers.
-#[derive(Drop)]
+#[derive(Clone, Copy)]
 pub enum Next {
     Nothing,
     Entry { entry: EraseEntry, stop: u32 },
 }
 
 // A plan's number of entries, its first base, and the end of its last entry.
-#[derive(Drop)]
+#[derive(Clone, Copy)]
 pub struct Surveyed {
     pub count: u64,
     pub first: u32,
@@ -54,7 +56,7 @@ pub struct Surveyed {
 }
 
 // Whether a span lies in its range; if not, the address to report.
-#[derive(Drop)]
+#[derive(Clone, Copy)]
 pub enum SpanCheck {
     Fits,
     Bad(u32),
@@ -62,7 +64,7 @@ pub enum SpanCheck {
 
 // A walk along a plan: whether an entry may follow, where it would start, whether that is known to be a multiple of every size, and the
 // entries seen so far.
-#[derive(Drop)]
+#[derive(Clone, Copy)]
 struct Walk {
     going: bool,
     at: u32,

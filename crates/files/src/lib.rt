@@ -3,7 +3,7 @@ ghost use Rattle.std.specs.Prelude.{◌≡◌};
 ghost use Rattle.io.specs.Counts.{IsPrefixLen};
 
 // How many bytes came, and whether reading failed.
-#[derive(Drop)]
+#[derive(Clone, Copy)]
 pub struct Part {
     pub len: usize,
     pub failed: bool,

@@ -16,7 +16,7 @@ use settings::Settings;
 use sfdp::FlashParams;
 
 // known: whether there are parameters. polls: those issued in this command.
-#[derive(Drop)]
+#[derive(Clone, Copy)]
 pub struct Session {
     pub settings: Settings,
     pub known: bool,
@@ -26,13 +26,13 @@ pub struct Session {
 }
 
 // What a start or a step gives the host: a transaction to carry out, or the command's answer with its poll count.
-#[derive(Drop)]
+#[derive(Clone, Copy)]
 pub enum Event {
     Send(Transaction),
     Answered(Answer, u64),
 }
 
-#[derive(Drop)]
+#[derive(Clone, Copy)]
 pub struct Stepped {
     pub session: Session,
     pub event: Event,
@@ -40,7 +40,7 @@ pub struct Stepped {
 
 // What a start comes to, apart from its session: an answer that refuses it; Done at once; or the first phase, with the place in the
 // room where the data go.
-#[derive(Drop)]
+#[derive(Clone, Copy)]
 pub enum First {
     Refused(Answer),
     Over,

@@ -6,7 +6,7 @@ use nor_part::{Part, State};
 use part_host::Play;
 
 // broken: sequences with a mismatch. mismatches: commands after which something is not as replayed.
-#[derive(Drop)]
+#[derive(Clone, Copy)]
 pub struct Totals {
     pub sequences: u64,
     pub broken: u64,
@@ -19,14 +19,14 @@ pub struct Totals {
 }
 
 // A part and the driver's knowledge of it. slow: it stays busy beyond the limit.
-#[derive(Drop)]
+#[derive(Clone, Copy)]
 pub struct World {
     pub shape: Shape,
     pub part: Part,
     pub slow: bool,
 }
 
-#[derive(Drop)]
+#[derive(Clone, Copy)]
 pub struct Run {
     pub state: State,
     pub session: Session,

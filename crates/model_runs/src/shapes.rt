@@ -22,7 +22,7 @@ pub const BUSY: u8 = 5;
 pub const SIZE: u8 = 6;
 
 // An erase, with its exponent in the SFDP area; 0 there: it is in no type.
-#[derive(Drop)]
+#[derive(Clone, Copy)]
 pub struct Type {
     pub opcode: u8,
     pub size: u32,
@@ -31,7 +31,7 @@ pub struct Type {
 
 // A part as the driver is told of it. sfdp: by the SFDP area; else the first erase and the page are set by hand. legacy: the area
 // has 4 KiB alone. page: the driver's, 2 to the power of exponent in the area.
-#[derive(Drop)]
+#[derive(Clone, Copy)]
 pub struct Shape {
     pub sfdp: bool,
     pub legacy: bool,

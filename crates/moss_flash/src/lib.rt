@@ -1,5 +1,7 @@
 // The driver for C: numbers and byte slices. The session is 256 lent bytes, an event is a record in 64 lent bytes. Each export is
 // its function of crates/flash, between unpacking and packing. include/moss_flash.h declares them.
+#![tactic(auto)]
+
 pub mod asked_c;
 pub mod plan_c;
 pub mod records;
@@ -15,14 +17,14 @@ ghost use Rattle.packed.specs.Layout.{put_over};
 use flash::{Event, Session, Stepped};
 
 // What lent session bytes hold.
-#[derive(Drop)]
+#[derive(Clone, Copy)]
 pub enum Unpacked {
     Held(Session),
     Bad,
 }
 
 // A call whose session and event record will do, or its answer's number.
-#[derive(Drop)]
+#[derive(Clone, Copy)]
 pub enum Opened {
     Open(Session),
     Refused(u8),

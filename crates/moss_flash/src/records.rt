@@ -9,7 +9,7 @@ use flash::{Event, Session};
 use phases::{Phase, Transaction};
 
 // The eight numbers of an event record.
-#[derive(Drop)]
+#[derive(Clone, Copy)]
 pub struct EventWords {
     pub head: u64,
     pub reply: u64,
@@ -194,7 +194,7 @@ pub fn runs(p: Phase) -> bool
 }
 
 // The four numbers of the settings' record.
-#[derive(Drop)]
+#[derive(Clone, Copy)]
 pub struct SettingsRecord {
     pub head: u64,
     pub capacity: u64,

@@ -1,4 +1,6 @@
 // The modelled part as code, over a lent slice as its memory: a transaction's bytes go in, the reply and the next state come out.
+#![tactic(auto)]
+
 mod bytes;
 mod erases;
 mod memory;
@@ -8,14 +10,14 @@ ghost use Rattle.nor_model.specs.Device.{status1, read_status, read_flags, page_
 ghost use Rattle.nor_part.specs.Responds.{answered, addressed_of, page_of, size_if, size_of, erases_of, part_of, state_of, Same};
 
 // An erase: its opcode, and how many bytes it erases. Size 0: there is none.
-#[derive(Drop)]
+#[derive(Clone, Copy)]
 pub struct Erase {
     pub opcode: u8,
     pub size: u32,
 }
 
 // What a part is: address bytes, device page, whether 70 is offered, erases. Its capacity is the length of its memory.
-#[derive(Drop)]
+#[derive(Clone, Copy)]
 pub struct Part {
     pub addressed: u8,
     pub page: u32,
@@ -27,7 +29,7 @@ pub struct Part {
 }
 
 // Write latch, busy polls left.
-#[derive(Drop)]
+#[derive(Clone, Copy)]
 pub struct State {
     pub latch: bool,
     pub busy: u64,

@@ -12,7 +12,7 @@ use flash::Session;
 use phases::Job;
 
 // Four bytes, and four yes-or-no marks.
-#[derive(Drop)]
+#[derive(Clone, Copy)]
 pub struct Four {
     pub a: u8,
     pub b: u8,
@@ -20,7 +20,7 @@ pub struct Four {
     pub d: u8,
 }
 
-#[derive(Drop)]
+#[derive(Clone, Copy)]
 pub struct Flags {
     pub a: bool,
     pub b: bool,
@@ -29,7 +29,7 @@ pub struct Flags {
 }
 
 // The words of each part of a session.
-#[derive(Drop)]
+#[derive(Clone, Copy)]
 pub struct SettingsWords {
     pub head: u32,
     pub low: u32,
@@ -39,7 +39,7 @@ pub struct SettingsWords {
     pub tail: u32,
 }
 
-#[derive(Drop)]
+#[derive(Clone, Copy)]
 pub struct ParamsWords {
     pub versions: u32,
     pub low: u32,
@@ -52,7 +52,7 @@ pub struct ParamsWords {
     pub more: u32,
 }
 
-#[derive(Drop)]
+#[derive(Clone, Copy)]
 pub struct InstWords {
     pub head: u32,
     pub size: u32,
@@ -61,7 +61,7 @@ pub struct InstWords {
     pub high: u32,
 }
 
-#[derive(Drop)]
+#[derive(Clone, Copy)]
 pub struct TimingWords {
     pub chip: u32,
     pub chiplow: u32,
@@ -78,7 +78,7 @@ pub struct TimingWords {
 }
 
 // A command: its number, its yes or no, its job, three numbers.
-#[derive(Drop)]
+#[derive(Clone, Copy)]
 pub struct Slots {
     pub command: u8,
     pub flag: bool,
@@ -89,7 +89,7 @@ pub struct Slots {
 }
 
 // An answer: its number and three more.
-#[derive(Drop)]
+#[derive(Clone, Copy)]
 pub struct Reported {
     pub answer: u8,
     pub a: u32,
@@ -98,7 +98,7 @@ pub struct Reported {
 }
 
 // A phase: its number, its answer's, whether the 06 was answered, the polls left, its command.
-#[derive(Drop)]
+#[derive(Clone, Copy)]
 pub struct Place {
     pub phase: u8,
     pub answer: u8,

@@ -6,7 +6,7 @@ use flash::{Session, Stepped};
 use nor_part::{Part, State};
 
 // kind: the commands in the order of crates/commands/specs/Calls. room: how many bytes are lent.
-#[derive(Drop)]
+#[derive(Clone, Copy)]
 pub struct Call {
     pub kind: u8,
     pub address: u32,
@@ -16,7 +16,7 @@ pub struct Call {
 }
 
 // The driver with what it asks for next, the part's state, the random source, and how many transactions there were.
-#[derive(Drop)]
+#[derive(Clone, Copy)]
 pub struct Play {
     pub stepped: Stepped,
     pub state: State,

@@ -29,7 +29,7 @@ pub fn number(state: u64) -> u64 {
 }
 
 // Six numbers, and the state after them.
-#[derive(Drop)]
+#[derive(Clone, Copy)]
 pub struct Numbers {
     pub a: u64,
     pub b: u64,

@@ -12,7 +12,7 @@ use erase_plan::Next;
 use settings::Settings;
 
 // What a program is about: the first and last address of its data, and of its plan's span. verified: read back at the end.
-#[derive(Drop)]
+#[derive(Clone, Copy)]
 pub struct Job {
     pub from: u32,
     pub last: u32,
@@ -22,7 +22,7 @@ pub struct Job {
 }
 
 // The first differing byte on verify: address, wrote, read.
-#[derive(Drop)]
+#[derive(Clone, Copy)]
 pub struct Mismatch {
     pub address: u32,
     pub wrote: u8,
@@ -30,7 +30,7 @@ pub struct Mismatch {
 }
 
 // A read that is under way, and what it is for.
-#[derive(Drop)]
+#[derive(Clone, Copy)]
 pub enum ReadCommand {
     // read, or legacy_read: address and length.
     Read(bool, u32, u64),
@@ -49,7 +49,7 @@ pub enum ReadCommand {
 }
 
 // An erase that is under way.
-#[derive(Drop)]
+#[derive(Clone, Copy)]
 pub enum EraseCommand {
     Chip,
     // erase_sectors: the position in the plan, and the range's last address.
@@ -59,7 +59,7 @@ pub enum EraseCommand {
 }
 
 // A page write that is under way: of the room's bytes from off on, up to the byte `to`, which is the last one.
-#[derive(Drop)]
+#[derive(Clone, Copy)]
 pub enum WriteCommand {
     // program: to, off.
     Program(Job, u32, u32),
@@ -68,7 +68,7 @@ pub enum WriteCommand {
 }
 
 // What is waited for.
-#[derive(Drop)]
+#[derive(Clone, Copy)]
 pub enum PollCommand {
     // is_busy: one poll.
     Once,
@@ -77,7 +77,7 @@ pub enum PollCommand {
 }
 
 // A verify that is under way.
-#[derive(Drop)]
+#[derive(Clone, Copy)]
 pub enum VerifyCommand {
     // The bytes up to the byte `to` are read back.
     Compare(Job, u32),
@@ -86,7 +86,7 @@ pub enum VerifyCommand {
 }
 
 // reset: 66, 99; or F0.
-#[derive(Drop)]
+#[derive(Clone, Copy)]
 pub enum ResetCommand {
     Enable,
     Reset,
@@ -94,14 +94,14 @@ pub enum ResetCommand {
 }
 
 // The command that ended. A program keeps its job, and whether its reads had all come back.
-#[derive(Drop)]
+#[derive(Clone, Copy)]
 pub enum Command {
     Other,
     Program(Job, bool),
 }
 
 // What the session waits on. enabled: whether the 06 was answered. left: how many polls may follow the one waited on.
-#[derive(Drop)]
+#[derive(Clone, Copy)]
 pub enum Phase {
     Reading {
         command: ReadCommand,
@@ -132,7 +132,7 @@ pub enum Phase {
 
 // A transaction for the host: command byte, address in so many bytes (0: none), dummy or not, payload as a part of the lent
 // room (from, len), reply length; whether it is a poll; and the delay after it, in µs.
-#[derive(Drop)]
+#[derive(Clone, Copy)]
 pub struct Transaction {
     pub opcode: u8,
     pub addressed: u8,

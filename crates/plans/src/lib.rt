@@ -1,5 +1,7 @@
 // The plan of an erase, as the driver is asked for it: the erase types of the settings and the parameters, refusals, and the
 // entries written into slots that the caller lends.
+#![tactic(auto)]
+
 ghost use Rattle.std.specs.Prelude.{◌≡◌, true, eqb, length};
 ghost use Rattle.erase_plan.specs.Types.{four_of, no_type, present};
 ghost use Rattle.plans.specs.Available.{type_of, single, of_params, all_zero, no_insts, usable_4k, of_settings, available};
@@ -11,7 +13,7 @@ use settings::{RangeCheck, Settings};
 use sfdp::{FlashParams, SFDPEraseInst, SFDPEraseInsts};
 
 // What a plan is asked for. known: whether there are parameters.
-#[derive(Drop)]
+#[derive(Clone, Copy)]
 pub struct PlanQuery {
     pub settings: Settings,
     pub known: bool,
@@ -22,7 +24,7 @@ pub struct PlanQuery {
 
 // A place in a plan: its types, the address that the next entry is for, the range's last address, and whether the address is known to be a
 // multiple of every size, as it is after the first entry.
-#[derive(Drop)]
+#[derive(Clone, Copy)]
 pub struct Cursor {
     pub types: EraseTypes,
     pub at: u32,
@@ -31,7 +33,7 @@ pub struct Cursor {
 }
 
 // The entry at a cursor, and the cursor past it.
-#[derive(Drop)]
+#[derive(Clone, Copy)]
 pub struct Step {
     pub entry: EraseEntry,
     pub next: Cursor,
@@ -39,7 +41,7 @@ pub struct Step {
 
 // What a query comes to before slots are looked at: answer 5 with what it reports, answer 7, or a plan's number of entries and where
 // it starts.
-#[derive(Drop)]
+#[derive(Clone, Copy)]
 pub enum Begun {
     InvalidAddress(u32),
     NoEraseInstruction,
@@ -49,7 +51,7 @@ pub enum Begun {
 // The answer. number is 0, 5, 7 or 11; last is what 5 reports; count is how many entries were written (0) or are needed (11).
 // What an answer does not have is 0.
 #[repr(C)]
-#[derive(Drop)]
+#[derive(Clone, Copy)]
 pub struct Planned {
     pub number: u8,
     pub last: u32,
@@ -57,7 +59,7 @@ pub struct Planned {
 }
 
 // The answer, with how many slots are to be written, and the cursor to start from.
-#[derive(Drop)]
+#[derive(Clone, Copy)]
 pub struct Prepared {
     pub answer: Planned,
     pub slots: usize,

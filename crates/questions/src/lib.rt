@@ -146,7 +146,7 @@ pub fn shown_words(known: bool, p: FlashParams) -> [u64; 24]
 // ---- the span of a program
 
 // The answer's number, and its two numbers: of 5 what it reports, of 0 the span's first address and its length.
-#[derive(Drop)]
+#[derive(Clone, Copy)]
 pub struct Spanned {
     pub number: u8,
     pub a: u64,

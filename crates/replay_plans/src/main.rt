@@ -7,7 +7,7 @@ mod ranges;
 use libc::STDOUT_FILENO;
 use tallies::{Next, SAME, Totals, line};
 
-#[derive(Drop)]
+#[derive(Clone, Copy)]
 pub enum List {
     Ranges,
     Plans,

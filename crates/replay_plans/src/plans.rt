@@ -46,7 +46,7 @@ fn same_entry(s: &[u8], k: u8, e: EraseEntry) -> bool {
 }
 
 // A walk along a plan: whether it goes on, from where, how many entries it passed, and whether all were the record's.
-#[derive(Drop)]
+#[derive(Clone, Copy)]
 pub struct Walk {
     pub going: bool,
     pub at: u32,

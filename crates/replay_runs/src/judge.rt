@@ -7,7 +7,7 @@ use flash::Event;
 use settings::Settings;
 
 // An answer with its values: a 32-bit number, two bytes, a 16-bit number; and the polls. 253: no answer.
-#[derive(Drop)]
+#[derive(Clone, Copy)]
 pub struct Outcome {
     pub number: u8,
     pub value: u32,
@@ -85,7 +85,7 @@ fn same_settings(s: &[u8], t: Settings) -> bool {
 }
 
 // What is alike: the answer with its values and bytes; what was sent; the settings; the erase opcode.
-#[derive(Drop)]
+#[derive(Clone, Copy)]
 pub struct Alike {
     pub answer: bool,
     pub wire: bool,

@@ -6,7 +6,7 @@ use flash::{Event, Session, Stepped};
 use phases::Transaction;
 
 // A run under way.
-#[derive(Drop)]
+#[derive(Clone, Copy)]
 pub struct Play {
     pub session: Session,
     pub event: Event,
@@ -196,7 +196,7 @@ pub fn start(s: &[u8], a: Session, work: &mut [u8]) -> Stepped {
 }
 
 // What a record's run comes to. before: the session that it starts from. data: the digest of the bytes read.
-#[derive(Drop)]
+#[derive(Clone, Copy)]
 pub struct Ran {
     pub before: Session,
     pub play: Play,

@@ -3,7 +3,7 @@ use dwords::{byte_at, number_at};
 use phases::Transaction;
 
 // Transactions so far, status reads in a row, waits, bytes written. plain: the area is read first, with no fault.
-#[derive(Drop)]
+#[derive(Clone, Copy)]
 pub struct Wire {
     pub plain: bool,
     pub count: u32,

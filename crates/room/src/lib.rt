@@ -1,11 +1,13 @@
 // The lent room: bytes laid over it, compared with others, and the all-FF test.
+#![tactic(auto)]
+
 ghost use Rattle.std.specs.Prelude.{◌≡◌, ◌+◌, ◌≤◌, min, length, take, drop};
 ghost use Rattle.commands.specs.Script.{over};
 ghost use Rattle.commands.specs.Commands.{blank};
 ghost use Rattle.room.specs.Room.{laid, differs_from, part_of};
 
 // The first place in which the room differs, with what the room has there and what was read.
-#[derive(Drop)]
+#[derive(Clone, Copy)]
 pub enum Differs {
     Same,
     At(u64, u8, u8),

@@ -8,7 +8,7 @@ ghost use Rattle.settings.specs.Ranges.{reach, capacity_allows, accepted_range, 
 use sfdp::{FlashParams, SFDPAddressBytes, SectorErase};
 
 // page_size and erase_size 0: unset. capacity_set: whether a capacity is set; capacity is 0 where it is not.
-#[derive(Drop)]
+#[derive(Clone, Copy)]
 pub struct Settings {
     pub address_bytes: u8,
     pub capacity_set: bool,
@@ -20,20 +20,20 @@ pub struct Settings {
 }
 
 // What answer 5 reports.
-#[derive(Drop)]
+#[derive(Clone, Copy)]
 pub struct BadRange {
     pub last: u32,
 }
 
 // Whether a range is accepted; if not, answer 5.
-#[derive(Drop)]
+#[derive(Clone, Copy)]
 pub enum RangeCheck {
     Fits,
     InvalidAddress(BadRange),
 }
 
 // What a setter with limits gives: the new settings, or answer 10.
-#[derive(Drop)]
+#[derive(Clone, Copy)]
 pub enum SetAnswer {
     Set(Settings),
     BadSetting,

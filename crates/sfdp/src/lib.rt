@@ -8,7 +8,7 @@ ghost use Rattle.sfdp.specs.Chosen.{capacity, lesser, smallest, sector_erase};
 use dwords::{byte_at, dword_at};
 
 // Whether the part is addressed by three bytes, four, or either.
-#[derive(Drop)]
+#[derive(Clone, Copy)]
 pub enum SFDPAddressBytes {
     Three,
     ThreeOrFour,
@@ -18,7 +18,7 @@ pub enum SFDPAddressBytes {
 
 // One erase instruction. size 0: the table has none here, and every field is 0. timed: whether the times are known
 // (µs); time_raw is the 7-bit field that they were decoded from.
-#[derive(Drop)]
+#[derive(Clone, Copy)]
 pub struct SFDPEraseInst {
     pub opcode: u8,
     pub size: u32,
@@ -29,7 +29,7 @@ pub struct SFDPEraseInst {
 }
 
 // The four places that a table has for erase instructions.
-#[derive(Drop)]
+#[derive(Clone, Copy)]
 pub struct SFDPEraseInsts {
     pub inst1: SFDPEraseInst,
     pub inst2: SFDPEraseInst,
@@ -38,7 +38,7 @@ pub struct SFDPEraseInsts {
 }
 
 // How status register 1 is written, and whether it keeps its value.
-#[derive(Drop)]
+#[derive(Clone, Copy)]
 pub enum SFDPStatus1Volatility {
     NonVolatile06,
     Volatile06,
@@ -49,7 +49,7 @@ pub enum SFDPStatus1Volatility {
 }
 
 // Times in µs, typical and maximum.
-#[derive(Drop)]
+#[derive(Clone, Copy)]
 pub struct SFDPTiming {
     pub chip_erase_time_typ: u32,
     pub chip_erase_time_max: u64,
@@ -62,7 +62,7 @@ pub struct SFDPTiming {
 }
 
 // The fields that the times were decoded from: two multipliers and four times.
-#[derive(Drop)]
+#[derive(Clone, Copy)]
 pub struct SFDPRawTimes {
     pub erase_multiplier: u8,
     pub prog_multiplier: u8,
@@ -74,7 +74,7 @@ pub struct SFDPRawTimes {
 
 // The basic parameter table. jesd216a: whether dwords 10 to 16 were read; where they were not, all that comes from
 // them (timing, page_size and what follows it, the erase instructions' times) is unknown and holds 0, no or Reserved.
-#[derive(Drop)]
+#[derive(Clone, Copy)]
 pub struct FlashParams {
     pub version_major: u8,
     pub version_minor: u8,
@@ -100,7 +100,7 @@ pub struct FlashParams {
 }
 
 // A parameter header: what table it is of, its revision, its length in dwords and where it starts in the area.
-#[derive(Drop)]
+#[derive(Clone, Copy)]
 pub struct SFDPParameterHeader {
     pub parameter_id: u16,
     pub minor: u8,
@@ -110,7 +110,7 @@ pub struct SFDPParameterHeader {
 }
 
 // What the signature and the first parameter header give: the header, or answer 12 or 3.
-#[derive(Drop)]
+#[derive(Clone, Copy)]
 pub enum ReadHeader {
     Header(SFDPParameterHeader),
     NoSFDP,
@@ -118,14 +118,14 @@ pub enum ReadHeader {
 }
 
 // What a table gives: the parameters, or answer 4.
-#[derive(Drop)]
+#[derive(Clone, Copy)]
 pub enum ReadParams {
     Params(FlashParams),
     InvalidSFDPParams,
 }
 
 // What a whole area gives: the parameters, or answer 12, 3 or 4.
-#[derive(Drop)]
+#[derive(Clone, Copy)]
 pub enum ReadArea {
     Params(FlashParams),
     NoSFDP,
@@ -134,7 +134,7 @@ pub enum ReadArea {
 }
 
 // The smallest erase instruction, if there is one.
-#[derive(Drop)]
+#[derive(Clone, Copy)]
 pub enum SectorErase {
     Smallest(u32, u8),
     Nothing,

@@ -13,7 +13,7 @@ use sfdp::{
 };
 
 // What writing gives: done; refusal 15; or 11 with the bytes that are needed.
-#[derive(Drop)]
+#[derive(Clone, Copy)]
 pub enum WriteTable {
     Done,
     NoForm,

@@ -11,7 +11,7 @@ pub const UNLISTED: u8 = 30;
 pub const WRONG: u8 = 31;
 
 // What comes next in a list: no record, or one of a class.
-#[derive(Drop)]
+#[derive(Clone, Copy)]
 pub enum Next {
     Nothing,
     Record(u8),
@@ -19,7 +19,7 @@ pub enum Next {
 
 // Records by class; how many there were so far, and the number of the first that is on no list or wrong.
 // A proved loop has to end, and nothing says that a file does: left counts down how many more are read, 0 at the list's end.
-#[derive(Drop)]
+#[derive(Clone, Copy)]
 pub struct Totals {
     pub by_class: [u64; 32],
     pub seen: u64,
