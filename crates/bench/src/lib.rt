@@ -1,5 +1,7 @@
 // What tools/bench calls: each function runs a proved function and folds its result into one number, so that nothing
 // of it is left out. For the benchmark alone. tools/bench/bench.rs folds the Rust's results by the same rules.
+#![tactic(auto)]
+
 use erase_plan::{EraseEntry, EraseType, EraseTypes, Next};
 use sfdp::{
     FlashParams, ReadParams, SFDPAddressBytes, SFDPEraseInst, SFDPEraseInsts, SFDPRawTimes,

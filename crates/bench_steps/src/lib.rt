@@ -1,4 +1,6 @@
 // What tools/bench calls: a command run step by step, with all that was sent folded into one number. For the benchmark alone.
+#![tactic(auto)]
+
 use flash::{Event, Session, Stepped};
 use phases::Transaction;
 

@@ -1,4 +1,6 @@
 // What the driver's commands mean: the answers, and in specs/ each command as a script of transactions.
+#![tactic(auto)]
+
 ghost use Rattle.std.specs.Prelude.{◌≡◌};
 ghost use Rattle.commands.specs.Answers.{number_of};
 

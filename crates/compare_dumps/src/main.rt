@@ -1,5 +1,7 @@
 // Lists every differing run of two card dumps. The arguments are the names of the two files, which are read in parts of at most
 // 4,096 bytes. The last line begins with equal, differ or error.
+#![tactic(auto)]
+
 mod show;
 
 ghost use Rattle.io.specs.Counts.{IsPrefixLen};

@@ -1,4 +1,6 @@
 // The differing runs of two dumps that come in parts, one run at a time, and the blocks that a run meets.
+#![tactic(auto)]
+
 ghost use Rattle.std.specs.Prelude.{◌≡◌, ◌+◌, ◌-◌, ◌<◌, min, max, length, drop};
 ghost use Rattle.dump_runs.specs.Blocks.{blocks_of};
 ghost use Rattle.dump_runs.specs.Steps.{most, begun, goes_on, too_long, scan_of, next_of, open_of, tail_of};

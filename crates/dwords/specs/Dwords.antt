@@ -1,5 +1,5 @@
 -- Bytes, dwords and bit fields, numbered as in JESD216: dword 1 is the first of a table, bit 31 the highest of a dword.
-use Rattle.std.specs.Prelude.{ℕ, ◌+◌, ◌-◌, ◌*◌, ◌/◌, ◌%◌, ◌^◌, List, Bool, get_or, drop, eqb}
+use Rattle.std.specs.Prelude.{ℕ, ◌+◌, ◌-◌, ◌*◌, ◌/◌, ◌%◌, ◌^◌, List, Bool, get_or, eqb}
 
 -- byte i of a list; one that is not there reads as FF, as erased flash does
 unfoldable pub byte_at : List ℕ → ℕ → ℕ

@@ -1,4 +1,6 @@
 // Bytes and little-endian dwords of a lent slice. A byte that is not there reads as FF, as erased flash does.
+#![tactic(auto)]
+
 ghost use Rattle.std.specs.Prelude.{◌≡◌, ◌+◌, ◌*◌};
 ghost use Rattle.dwords.specs.Dwords.{byte_at, le32, dword};
 

@@ -1,4 +1,6 @@
 // What the programs share that read files by name: opened, read to their end, told by name where that fails; and the question for help.
+#![tactic(auto)]
+
 ghost use Rattle.std.specs.Prelude.{◌≡◌};
 ghost use Rattle.io.specs.Counts.{IsPrefixLen};
 

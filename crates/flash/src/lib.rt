@@ -1,6 +1,8 @@
 // The driver: a session that hands out one transaction at a time and never waits by itself. Start a command, carry out the
 // transaction, give its reply to the step, until there is an answer. The session goes in by value and comes back by value; it
 // never holds a list.
+#![tactic(auto)]
+
 mod polls;
 mod reads;
 mod starts;

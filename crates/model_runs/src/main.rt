@@ -1,6 +1,8 @@
 // Runs the driver on the modelled part: many random sequences of commands, setters and busy times on parts of several shapes.
 // After each command the part's memory is compared with a replay beside it, and so are the bytes of each read. Then the same with
 // one premise broken at a time, to see that the conclusion fails without it.
+#![tactic(auto)]
+
 mod calls;
 mod image;
 mod runs;

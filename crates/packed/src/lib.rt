@@ -1,5 +1,7 @@
 // A session as 256 bytes, for a host that keeps bytes alone: 64 words of 32 bits, each word's lowest byte first. The layout is the
 // table at the head of specs/Layout.antt. Any bytes read as some session; `same` says whether bytes are exactly a session's.
+#![tactic(auto)]
+
 mod numbers;
 mod parts;
 mod phase_words;

@@ -1,4 +1,6 @@
 // A host for the driver and the modelled part: it carries out a command from its start to its answer, each transaction on the part.
+#![tactic(auto)]
+
 pub mod source;
 mod wire;
 

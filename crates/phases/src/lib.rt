@@ -1,4 +1,6 @@
 // Phases: which part of which command is running, and the transaction that each phase asks for, as far as no session is needed.
+#![tactic(auto)]
+
 pub mod ends;
 pub mod polls;
 pub mod reads;

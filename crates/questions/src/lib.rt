@@ -1,4 +1,6 @@
 // What a host may ask besides running a command: the parameters that a table gave, as plain numbers, and the span of a program.
+#![tactic(auto)]
+
 ghost use Rattle.std.specs.Prelude.{◌≡◌, [], ◌∷◌, ◌-◌};
 ghost use Rattle.questions.specs.Shown.{low_first, bit, address_code, volatility_code, type_head, head_word, marks_word, page_word, params_words, shown_words};
 ghost use Rattle.questions.specs.Spans.{limited, spanned_of};

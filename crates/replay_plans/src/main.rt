@@ -1,6 +1,8 @@
 // Replays two lists of the Rust's answers against the proved range check and the proved plans.
 // ranges.bin: 4,096 ranges. plans.bin: 4,096 plans. Where the Rust parts from docs/SCOPE.md the record is counted under its class.
 // docs/ORACLE.md has the records and the classes.
+#![tactic(auto)]
+
 mod plans;
 mod ranges;
 

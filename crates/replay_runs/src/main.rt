@@ -2,6 +2,8 @@
 // the answer, the number of transactions and polls, the digest of all that was sent, the bytes read and the settings compared.
 // Ours is also held to docs/SCOPE.md's rules as tools/oracle/run_rules.py has them, for all records.
 // Where the Rust parts from docs/SCOPE.md the record is counted under its class. docs/ORACLE.md has the records and the classes.
+#![tactic(auto)]
+
 mod classes;
 mod digest;
 mod judge;

@@ -2,6 +2,8 @@
 // sfdp.bin: what the Rust made of 4,096 areas. Where it parts from docs/SCOPE.md the record is counted under its class.
 // parts.bin: the areas of real parts and their decoded values; all must agree.
 // docs/ORACLE.md has the records and the classes.
+#![tactic(auto)]
+
 mod fields;
 mod judge;
 

@@ -1,4 +1,6 @@
 // The session's own rule, as one test: what holds of each session that a start, a step or a setter hands back.
+#![tactic(auto)]
+
 mod behind;
 mod phase_rules;
 

@@ -1,5 +1,7 @@
 // The driver's settings: defaults, setters with their limits, what read_params makes of them, and which ranges of
 // addresses they accept.
+#![tactic(auto)]
+
 ghost use Rattle.std.specs.Prelude.{◌≡◌, ◌+◌, nat_le};
 ghost use Rattle.settings.specs.Limits.{defaults, with_address_bytes, with_capacity, with_page_size, with_erase, with_poll_limit, within, set_address_bytes, set_page_size, set_erase_size, set_poll_limit, set_capacity, clear_capacity, set_erase_opcode, page_of};
 ghost use Rattle.settings.specs.Updated.{address_bytes_of, legacy_erase, chosen_erase, size_or, opcode_or, updated};

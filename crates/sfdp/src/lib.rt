@@ -1,5 +1,7 @@
 // The SFDP area of a flash part, read as JESD216 lays it out: header, first parameter header, basic parameter table.
 // Bytes are lent and only read. Any bytes of any length get an answer; a byte that is not there reads as FF.
+#![tactic(auto)]
+
 ghost use Rattle.std.specs.Prelude.{◌≡◌, true, false, cond, eqb, ◌^◌, ◌<◌, drop};
 ghost use Rattle.sfdp.specs.Times.{maximum, erase_time, page_time, byte_time, chip_time};
 ghost use Rattle.sfdp.specs.Jesd216.{signed, headers, parameter_header, basic, read_header, address_bytes, density, no_type, erase_type, erase_types, timing, raw_times, volatility, extended, fields, no_params, params, size_fits, sizes_fit, density_fits, accepted, read_table, read_area, answer_number};

@@ -1,5 +1,7 @@
 // The SFDP area of an emulated part, written from its parameters: header, one parameter header, a basic parameter table of 16 dwords.
 // Parameters that no such table gives back exactly are refused, and the lent buffer is then left as it was.
+#![tactic(auto)]
+
 ghost use Rattle.std.specs.Prelude.{◌≡◌, cond, ◌||◌, [], ◌∷◌, ◌++◌, ◌+◌, ◌-◌, ◌*◌, ◌/◌, ◌%◌, ◌≤◌, ◌<◌, eqb, length, get_or, drop};
 ghost use Rattle.sfdp.specs.Times.{erase_time, page_time, byte_time, chip_time};
 ghost use Rattle.sfdp_write.specs.Table.{placed, mark, address_code, dword1, dword2, size_field, types_dword, dword10, times_dword, dword11, dword14, volatility_code, dword16, dwords_of, bytes_of};

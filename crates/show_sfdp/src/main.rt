@@ -1,4 +1,6 @@
 // Prints what the SFDP area in a file says of its part. The argument is the file's name.
+#![tactic(auto)]
+
 use libc::STDOUT_FILENO;
 use sfdp::{
     FlashParams, ReadArea, SFDPAddressBytes, SFDPEraseInst, SFDPStatus1Volatility, SFDPTiming,

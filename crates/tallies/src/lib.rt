@@ -1,5 +1,7 @@
 // What the programs that replay a list share: records counted by class, and the lines that they print.
 // SAME, UNLISTED and WRONG mean the same in each; the numbers from 1 to 29 are for the classes on its lists.
+#![tactic(auto)]
+
 ghost use Rattle.std.specs.Prelude.{◌-◌, ◌<◌, ◌≤◌};
 
 use libc::STDOUT_FILENO;

@@ -1,5 +1,7 @@
 // Writes the SFDP area of an emulated part from that of a real one. The arguments are the names of a file with an area that was read, and of a new
 // file for the 80 bytes.
+#![tactic(auto)]
+
 use libc::STDOUT_FILENO;
 use sfdp::{FlashParams, ReadArea};
 

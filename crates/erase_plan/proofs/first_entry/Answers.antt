@@ -1,0 +1,25 @@
+-- `erase_plan::first_entry` meets its contract: the better of the entries of the first two types, of three, of four.
+use Rattle.std.proofs.Common.{◌+◌, ◌++◌, rules}
+use Rattle.erase_plan.specs.Types.{kept, present}
+use Rattle.erase_plan.specs.Words.{Each}
+use Rattle.erase_plan.specs.Good.{Present}
+use Rattle.erase_plan.proofs.Lists.{each_append}
+use Rattle.erase_plan.proofs.Ordering.{kept_present}
+use Rattle.erase_plan.proofs.first_entry.Goals as goal
+
+pub returns : goal.returns
+unfolding present
+returns c =
+    let a = c.args in
+    let ts = a.ts in
+    let two = kept ts.t1 ++ kept ts.t2 in
+    let three = two ++ kept ts.t3 in
+    let p2 : Each Present two = each_append Present (kept ts.t1) (kept ts.t2) (kept_present ts.t1) (kept_present ts.t2) in
+    let p3 : Each Present three = each_append Present two (kept ts.t3) p2 (kept_present ts.t3) in
+    c.better.ensures three ts.t4 a.at (a.last + 1) p3
+    (c.better-three.ensures two ts.t3 a.at (a.last + 1) p2
+    (c.better-two.ensures (kept ts.t1) ts.t2 a.at (a.last + 1) (kept_present ts.t1)
+    c.first_of-one.ensures
+    c.first_of.ensures)
+    c.first_of-2.ensures)
+    c.first_of-3.ensures
