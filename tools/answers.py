@@ -26,7 +26,7 @@ def norm(s):
 
 def step_norm(s):
     # goes-on2, goes_on-2: one spelling
-    return re.sub(r"-(?=\d+$)", "", norm(s))
+    return re.sub(r"-(?=\d+$)", "", norm(s)).lower()
 
 
 def need_norm(s):
@@ -65,6 +65,10 @@ class Fn:
                 for new, old, path in arm[2]:
                     if step_norm(old) == step_norm(x) and rest[1 : 1 + len(path)] == path and (path or not new.endswith("-own")):
                         return ["c", arm[0], new] + rest[1 + len(path) :]
+            if arm:
+                for new, old, path in arm[2]:
+                    if step_norm(old) == step_norm(x) and not path and len(rest) > 1:
+                        return ["c", arm[0], new] + rest[1:]
             if step_norm(place[2][0]) == step_norm(x):
                 return ["c", place[2][1]] + rest[1:]
             here = self.parent(here)
@@ -146,6 +150,7 @@ def turn(crate, folder, fn, path, keep):
             uses.append(line)
     answers, invariants, lemmas = [], [], []
     has_loop = False
+    inlines = {}
     for d in all_:
         look = lambda t, d=d: said.append(f"look: {path}: {d['name']}: {t}")
         if d["name"].endswith("-spec") or d["name"].endswith("_spec"):
@@ -175,6 +180,7 @@ def turn(crate, folder, fn, path, keep):
             old = need_norm(m.group(1))
             body = "\n".join(d["body"])
             if re.fullmatch(r"\S+(?: \S+)* = search rules", body.strip()):
+                inlines[d["name"]] = "(search rules)"
                 continue
             if old.startswith("overflow-") and old not in fn.needs:
                 old = old[len("overflow-") :]
@@ -191,7 +197,13 @@ def turn(crate, folder, fn, path, keep):
                     if old.endswith("requires") or "-requires-" in old:
                         line = re.sub(r"^(\S+ c) κs", r"\1", line)
                 out.append(line)
-            answers.append("\n".join(d["before"] + [f"pub {new} : goal.{new}", turn_ways("\n".join(out), fn, at, look)]))
+            turned = turn_ways("\n".join(out), fn, at, look)
+            for local, term in inlines.items():
+                turned = re.sub(r"(?<![\w.'\-])" + re.escape(local) + r" c(?:\.before)*(?: κs)?(?![\w.'\-])", lambda k: term, turned)
+            answers.append("\n".join(d["before"] + [f"pub {new} : goal.{new}", turned]))
+            e = re.fullmatch(re.escape(new) + r" c = (.*)", turned, re.S)
+            if e:
+                inlines[d["name"]] = e.group(1) if re.fullmatch(r"\S+|\(.*\)", e.group(1)) else "(" + e.group(1) + ")"
             continue
         lemmas.append("\n".join(d["before"] + [d["line"]] + d["body"]))
     base = os.path.dirname(path)

@@ -40,7 +40,10 @@ pub scan-requires : goal.scan-requires
 scan-requires c =
     let a = c.args in
     let short : too_long a.self (length a.a.now - a.from) (length a.b.now - a.from) ≡ false = (long_test a.self c.is_long.ensures c.left-p.ensures c.left-q.ensures c.if-is_long.false) in
-    (short_first a.self (length a.a.now - a.from) (length a.b.now - a.from) short, short_second a.self (length a.a.now - a.from) (length a.b.now - a.from) short)
+    record {
+      from_bound = short_first a.self (length a.a.now - a.from) (length a.b.now - a.from) short;
+      from_bound_2 = short_second a.self (length a.a.now - a.from) (length a.b.now - a.from) short;
+    }
 
 pub returns : goal.returns
 returns c =
