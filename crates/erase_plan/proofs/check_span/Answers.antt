@@ -10,7 +10,7 @@ pub returns-then-end-from : goal.returns-then-end-from
 returns-then-end-from c = lies_inside _ _ _ _ c.if-first-address.false (omega arith)
 
 pub returns-then-length-end : goal.returns-then-length-end
-returns-then-length-end c = ends_past _ _ _ _ _ c.if-first-address.false c.if-end-from.false c.if-length-end.true c.wrapping_add_u32.ensures
+returns-then-length-end c = ends_past _ _ _ _ _ c.if-first-address.false c.if-end-from.false c.if-length-end.true c.wrapping_add_u32.ensures.value
 
 pub returns : goal.returns
 returns c = lies_inside _ _ _ _ c.if-first-address.false (omega (arith, c.if-end-from.false, c.if-length-end.false))
