@@ -153,7 +153,11 @@ def turn(crate, folder, fn, path, keep):
     inlines = {}
     for d in all_:
         look = lambda t, d=d: said.append(f"look: {path}: {d['name']}: {t}")
-        if d["name"].endswith("-spec") or d["name"].endswith("_spec"):
+        if d["name"].endswith("-spec") or d["name"].endswith("_spec") or d["name"].startswith("which-"):
+            continue
+        if "which-" in "\n".join(d["body"]):
+            said.append(f"look: {path}: {d['name']}: left to the check, an arm of several variants")
+            inlines[d["name"]] = "(search rules)"
             continue
         m = re.match(r"tie\.(invariant|decreases)-(\S+)$", d["type"])
         if m:
