@@ -126,6 +126,7 @@ def turn_ways(text, fn, at, look):
         alias[m.group(1)] = m.group(2).count(".before")
         return ""
 
+    text = re.sub(r"(?<=\.)«([^»]*)»", r"\1", text)
     text = re.sub(r"let (" + NAME + r") = c((?:\.before)+) in\s*", bind, text)
     heads = "|".join(["c"] + [re.escape(a) for a in alias])
     return re.sub(r"(?<![\w.'\-])(?:" + heads + r")(?:\." + NAME + r")+", one, text)
@@ -202,8 +203,10 @@ def turn(crate, folder, fn, path, keep):
                         line = re.sub(r"^(\S+ c) κs", r"\1", line)
                 out.append(line)
             turned = turn_ways("\n".join(out), fn, at, look)
+            left, equal, right = turned.partition(" =")
             for local, term in inlines.items():
-                turned = re.sub(r"(?<![\w.'\-])" + re.escape(local) + r" c(?:\.before)*(?: κs)?(?![\w.'\-])", lambda k: term, turned)
+                right = re.sub(r"(?<![\w.'\-])" + re.escape(local) + r" c(?:\.before)*(?: κs)?(?![\w.'\-])", lambda k: term, right)
+            turned = left + equal + right
             answers.append("\n".join(d["before"] + [f"pub {new} : goal.{new}", turned]))
             e = re.fullmatch(re.escape(new) + r" c = (.*)", turned, re.S)
             if e:
