@@ -106,7 +106,7 @@ def decls(text):
     return head, out
 
 
-def turn_ways(text, fn, at, look):
+def turn_ways(text, fn, at, look, arms):
     alias = {}
 
     def one(m):
@@ -129,7 +129,16 @@ def turn_ways(text, fn, at, look):
     text = re.sub(r"(?<=\.)«([^»]*)»", r"\1", text)
     text = re.sub(r"let (" + NAME + r") = c((?:\.before)+) in\s*", bind, text)
     heads = "|".join(["c"] + [re.escape(a) for a in alias])
-    return re.sub(r"(?<![\w.'\-])(?:" + heads + r")(?:\." + NAME + r")+", one, text)
+    text = re.sub(r"(?<![\w.'\-])(?:" + heads + r")(?:\." + NAME + r")+", one, text)
+    text = re.sub(r"(\.wrapping_\w+(?:-[\w-]+)?\.ensures)(?![\w.'\-])", r"\1.value", text)
+    sides = re.compile(r"⊎_elim \(λ (\w+)\. ((?:[^()]|\([^()]*\))*)\) \(λ (\w+)\. ((?:[^()]|\([^()]*\))*)\) (c\.if-(" + NAME + r")\.branch)")
+
+    def split(m):
+        look("arms " + m.group(6))
+        arms.update({"then-" + m.group(6), "else-" + m.group(6)})
+        return f"(elim {m.group(5)} [ then-{m.group(6)} {m.group(1)} ↦ {m.group(2)} | else-{m.group(6)} {m.group(3)} ↦ {m.group(4)} ])"
+
+    return sides.sub(split, text)
 
 
 def turn(crate, folder, fn, path, keep):
@@ -151,15 +160,18 @@ def turn(crate, folder, fn, path, keep):
             uses.append(line)
     answers, invariants, lemmas = [], [], []
     has_loop = False
-    inlines = {}
+    inlines, arms = {}, set()
     for d in all_:
         look = lambda t, d=d: said.append(f"look: {path}: {d['name']}: {t}")
         if d["name"].endswith("-spec") or d["name"].endswith("_spec") or d["name"].startswith("which-"):
             continue
         if "which-" in "\n".join(d["body"]):
             said.append(f"look: {path}: {d['name']}: left to the check, an arm of several variants")
-            inlines[d["name"]] = "(search rules)"
-            continue
+            at = next((i for i, b in enumerate(d["body"]) if b.startswith(d["name"] + " ")), 0)
+            d["body"] = d["body"][:at] + [d["name"] + " c = search rules"]
+            if not at:
+                inlines[d["name"]] = "(search rules)"
+                continue
         m = re.match(r"tie\.(invariant|decreases)-(\S+)$", d["type"])
         if m:
             has_loop = True
@@ -202,7 +214,7 @@ def turn(crate, folder, fn, path, keep):
                     if old.endswith("requires") or "-requires-" in old:
                         line = re.sub(r"^(\S+ c) κs", r"\1", line)
                 out.append(line)
-            turned = turn_ways("\n".join(out), fn, at, look)
+            turned = turn_ways("\n".join(out), fn, at, look, arms)
             left, equal, right = turned.partition(" =")
             for local, term in inlines.items():
                 right = re.sub(r"(?<![\w.'\-])" + re.escape(local) + r" c(?:\.before)*(?: κs)?(?![\w.'\-])", lambda k: term, right)
@@ -218,7 +230,7 @@ def turn(crate, folder, fn, path, keep):
     comment = [c for c in comments if not re.match(r"-- \S*src/\S+:\d+:\d+$", c)]
     wrote = False
     if answers:
-        t = "\n".join(comment + uses + [f"use {goal}.Goals as goal"]) + "\n\n" + "\n\n".join(lemmas + answers) + "\n"
+        t = "\n".join(comment + uses + [f"use {goal}.Goals as goal"] + ([f"use {goal}.Goals.{{{', '.join(sorted(arms))}}}"] if arms else [])) + "\n\n" + "\n\n".join(lemmas + answers) + "\n"
         with open(os.path.join(base, "Answers.antt"), "w", encoding="utf-8") as f:
             f.write(t)
         wrote = True

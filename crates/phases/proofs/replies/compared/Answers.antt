@@ -10,4 +10,4 @@ returns-in-Same c = rw (compares c.args.job.base 0, ← c.first_differs.ensures,
 
 pub returns-in-At : goal.returns-in-At
 unfolding verify_on judged mismatch_of
-returns-in-At c = rw (c.wrapping_add_u32.ensures, compares c.args.job.base 0, ← c.first_differs.ensures, c.in-At.is, add-mod-mod)
+returns-in-At c = rw (c.wrapping_add_u32.ensures.value, compares c.args.job.base 0, ← c.first_differs.ensures, c.in-At.is, add-mod-mod)

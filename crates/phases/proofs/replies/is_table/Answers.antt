@@ -10,3 +10,7 @@ use Rattle.phases.proofs.replies.is_table.Goals as goal
 pub returns-in-Table : goal.returns-in-Table
 unfolding is_table
 returns-in-Table c = search rules
+
+pub returns-in_default : goal.returns-in_default
+unfolding is_table
+returns-in_default c = search rules

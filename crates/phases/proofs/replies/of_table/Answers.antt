@@ -10,3 +10,7 @@ use Rattle.phases.proofs.replies.of_table.Goals as goal
 pub returns-in-Reading : goal.returns-in-Reading
 unfolding of_table
 returns-in-Reading c = rw (c.is_table.ensures, c.in-Reading.is)
+
+pub returns-in_default : goal.returns-in_default
+unfolding of_table
+returns-in_default c = search rules
