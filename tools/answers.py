@@ -72,6 +72,8 @@ class Fn:
             if step_norm(place[2][0]) == step_norm(x):
                 return ["c", place[2][1]] + rest[1:]
             here = self.parent(here)
+        if at != start:
+            return self.way(start, 0, rest, look)
         look("no step " + ".".join(rest))
         return ["c"] + rest
 
@@ -120,7 +122,11 @@ def turn_ways(text, fn, at, look, arms):
         new = fn.way(at, k + extra, rest, look)
         if new is None:
             return m.group(0)
-        return ".".join(new)
+        word = ".".join(new)
+        if re.fullmatch(r"keys\d+", new[-1]) and len(new) > 2 and new[-2].endswith("-own") and "default" in new[-2]:
+            arms.add("")
+            return f"(opened {word})"
+        return word
 
     def bind(m):
         alias[m.group(1)] = m.group(2).count(".before")
@@ -230,7 +236,7 @@ def turn(crate, folder, fn, path, keep):
     comment = [c for c in comments if not re.match(r"-- \S*src/\S+:\d+:\d+$", c)]
     wrote = False
     if answers:
-        t = "\n".join(comment + uses + [f"use {goal}.Goals as goal"] + ([f"use {goal}.Goals.{{{', '.join(sorted(arms))}}}"] if arms else [])) + "\n\n" + "\n\n".join(lemmas + answers) + "\n"
+        t = "\n".join(comment + uses + [f"use {goal}.Goals as goal"] + ([f"use {goal}.Goals.{{{', '.join(sorted(arms - {''}))}}}"] if arms - {""} else []) + (["use borrow.Enum.Refused.{opened}"] if "" in arms else [])) + "\n\n" + "\n\n".join(lemmas + answers) + "\n"
         with open(os.path.join(base, "Answers.antt"), "w", encoding="utf-8") as f:
             f.write(t)
         wrote = True
