@@ -1,0 +1,16 @@
+use Rattle.packed.specs.Phases.{reset_in}
+use lib.ListN.{get_or-eq_default}
+use Rattle.packed.proofs.Choosing.{up, none_below}
+use Rattle.packed.proofs.phase_words.reset_in.Goals as goal
+
+pub returns-in-0 : goal.returns-in-0
+unfolding reset_in
+returns-in-0 c = rw c.in-0.is
+
+pub returns-in-1 : goal.returns-in-1
+unfolding reset_in
+returns-in-1 c = rw c.in-1.is
+
+pub returns-in_default : goal.returns-in_default
+unfolding reset_in
+returns-in_default c = rw (get_or-eq_default _ _ (up _ 1 (up _ 0 (none_below _) c.in_default.in_default-own.rest.0.1) c.in_default.in_default-own.rest.1))
