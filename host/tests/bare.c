@@ -1,5 +1,5 @@
 /*
- * The archive and the host without a C library: a Linux program with its own start and its own memcpy. A block is
+ * The archive and the host without a C library: a Linux program with its own start, memcpy and memset. A block is
  * programmed on the simulated part; the exit status is 0 if all is as it should be.
  */
 #include "moss_flash_host.h"
@@ -20,6 +20,16 @@ void *memcpy(void *to, const void *from, size_t count)
 
     while (count--)
         *t++ = *f++;
+    return to;
+}
+
+void *memset(void *to, int byte, size_t count);
+void *memset(void *to, int byte, size_t count)
+{
+    uint8_t *t = (uint8_t *)to;
+
+    while (count--)
+        *t++ = (uint8_t)byte;
     return to;
 }
 
