@@ -8,8 +8,7 @@ use crate::{Opened, Unpacked, plan_c, records};
 use questions::Spanned;
 
 // The version of the interface: major, minor and patch, a byte each, the patch lowest.
-#[unsafe(no_mangle)]
-pub extern "C" fn moss_flash_version() -> u32
+pub fn moss_flash_version() -> u32
     ensures { result ≡ version }
 {
     0x0200
@@ -27,8 +26,7 @@ fn write_all(out: &mut [u8], w: &[u64])
 }
 
 // The parameters' record: 13, then 11 where it has less than 192 bytes; else 0.
-#[unsafe(no_mangle)]
-pub extern "C" fn moss_flash_params(session: &[u8], params: &mut [u8]) -> u8
+pub fn moss_flash_params(session: &[u8], params: &mut [u8]) -> u8
     ensures { (result ≡ (params_called (unpack_of session.now) params.old).number) × (params.new ≡ (params_called (unpack_of session.now) params.old).event) }
 {
     match crate::unpack(session) {
@@ -60,8 +58,7 @@ fn span_words(x: Spanned) -> EventWords
 }
 
 // The span of a program of a range. It only looks: a command may be running.
-#[unsafe(no_mangle)]
-pub extern "C" fn moss_flash_span(session: &[u8], address: u32, size: u64, event: &mut [u8]) -> u8
+pub fn moss_flash_span(session: &[u8], address: u32, size: u64, event: &mut [u8]) -> u8
     ensures { (result ≡ (span_called (opened_of session.now (length event.old)) address size event.old).number) × (event.new ≡ (span_called (opened_of session.now (length event.old)) address size event.old).event) }
 {
     match crate::open(session, event.len()) {

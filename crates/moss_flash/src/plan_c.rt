@@ -130,8 +130,7 @@ fn plan_words(p: Planned) -> EventWords
 }
 
 // The plan of a range: its entries, or a refusal that changes no slot.
-#[unsafe(no_mangle)]
-pub extern "C" fn moss_flash_make_erase_plan(
+pub fn moss_flash_make_erase_plan(
     session: &[u8],
     address: u32,
     size: u64,

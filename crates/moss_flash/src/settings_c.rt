@@ -10,8 +10,7 @@ use crate::Unpacked;
 use flash::{Session, Stepped};
 
 // A fresh session, where there are exactly 256 bytes for it; else 13.
-#[unsafe(no_mangle)]
-pub extern "C" fn moss_flash_new(session: &mut [u8]) -> u8
+pub fn moss_flash_new(session: &mut [u8]) -> u8
     ensures { (result ≡ (new_of session.old).number) × (session.new ≡ (new_of session.old).session) }
 {
     if session.len() == 256 {
@@ -33,8 +32,7 @@ fn hand_set(x: Stepped, session: &mut [u8]) -> u8
     crate::number_in(e)
 }
 
-#[unsafe(no_mangle)]
-pub extern "C" fn moss_flash_set_address_bytes(session: &mut [u8], n: u8) -> u8
+pub fn moss_flash_set_address_bytes(session: &mut [u8], n: u8) -> u8
     ensures { (result ≡ (set_called (unpack_of session.old) session.old (λ s. setting s (set_address_bytes s.settings n))).number) × (session.new ≡ (set_called (unpack_of session.old) session.old (λ s. setting s (set_address_bytes s.settings n))).session) }
 {
     match crate::unpack(session) {
@@ -43,8 +41,7 @@ pub extern "C" fn moss_flash_set_address_bytes(session: &mut [u8], n: u8) -> u8
     }
 }
 
-#[unsafe(no_mangle)]
-pub extern "C" fn moss_flash_set_page_size(session: &mut [u8], n: u64) -> u8
+pub fn moss_flash_set_page_size(session: &mut [u8], n: u64) -> u8
     ensures { (result ≡ (set_called (unpack_of session.old) session.old (λ s. setting s (set_page_size s.settings n))).number) × (session.new ≡ (set_called (unpack_of session.old) session.old (λ s. setting s (set_page_size s.settings n))).session) }
 {
     match crate::unpack(session) {
@@ -53,8 +50,7 @@ pub extern "C" fn moss_flash_set_page_size(session: &mut [u8], n: u64) -> u8
     }
 }
 
-#[unsafe(no_mangle)]
-pub extern "C" fn moss_flash_set_erase_size(session: &mut [u8], n: u64) -> u8
+pub fn moss_flash_set_erase_size(session: &mut [u8], n: u64) -> u8
     ensures { (result ≡ (set_called (unpack_of session.old) session.old (λ s. setting s (set_erase_size s.settings n))).number) × (session.new ≡ (set_called (unpack_of session.old) session.old (λ s. setting s (set_erase_size s.settings n))).session) }
 {
     match crate::unpack(session) {
@@ -63,8 +59,7 @@ pub extern "C" fn moss_flash_set_erase_size(session: &mut [u8], n: u64) -> u8
     }
 }
 
-#[unsafe(no_mangle)]
-pub extern "C" fn moss_flash_set_erase_opcode(session: &mut [u8], opcode: u8) -> u8
+pub fn moss_flash_set_erase_opcode(session: &mut [u8], opcode: u8) -> u8
     ensures { (result ≡ (set_called (unpack_of session.old) session.old (λ s. setting s (Set (set_erase_opcode s.settings opcode)))).number) × (session.new ≡ (set_called (unpack_of session.old) session.old (λ s. setting s (Set (set_erase_opcode s.settings opcode)))).session) }
 {
     match crate::unpack(session) {
@@ -73,8 +68,7 @@ pub extern "C" fn moss_flash_set_erase_opcode(session: &mut [u8], opcode: u8) ->
     }
 }
 
-#[unsafe(no_mangle)]
-pub extern "C" fn moss_flash_set_poll_limit(session: &mut [u8], n: u32) -> u8
+pub fn moss_flash_set_poll_limit(session: &mut [u8], n: u32) -> u8
     ensures { (result ≡ (set_called (unpack_of session.old) session.old (λ s. setting s (set_poll_limit s.settings n))).number) × (session.new ≡ (set_called (unpack_of session.old) session.old (λ s. setting s (set_poll_limit s.settings n))).session) }
 {
     match crate::unpack(session) {
@@ -83,8 +77,7 @@ pub extern "C" fn moss_flash_set_poll_limit(session: &mut [u8], n: u32) -> u8
     }
 }
 
-#[unsafe(no_mangle)]
-pub extern "C" fn moss_flash_set_capacity(session: &mut [u8], n: u64) -> u8
+pub fn moss_flash_set_capacity(session: &mut [u8], n: u64) -> u8
     ensures { (result ≡ (set_called (unpack_of session.old) session.old (λ s. setting s (Set (set_capacity s.settings n)))).number) × (session.new ≡ (set_called (unpack_of session.old) session.old (λ s. setting s (Set (set_capacity s.settings n)))).session) }
 {
     match crate::unpack(session) {
@@ -93,8 +86,7 @@ pub extern "C" fn moss_flash_set_capacity(session: &mut [u8], n: u64) -> u8
     }
 }
 
-#[unsafe(no_mangle)]
-pub extern "C" fn moss_flash_clear_capacity(session: &mut [u8]) -> u8
+pub fn moss_flash_clear_capacity(session: &mut [u8]) -> u8
     ensures { (result ≡ (set_called (unpack_of session.old) session.old (λ s. setting s (Set (clear_capacity s.settings)))).number) × (session.new ≡ (set_called (unpack_of session.old) session.old (λ s. setting s (Set (clear_capacity s.settings)))).session) }
 {
     match crate::unpack(session) {
@@ -104,8 +96,7 @@ pub extern "C" fn moss_flash_clear_capacity(session: &mut [u8]) -> u8
 }
 
 // The settings' record: 13, then 11 where it has less than 32 bytes; else 0.
-#[unsafe(no_mangle)]
-pub extern "C" fn moss_flash_settings(session: &[u8], settings: &mut [u8]) -> u8
+pub fn moss_flash_settings(session: &[u8], settings: &mut [u8]) -> u8
     ensures { (result ≡ (settings_called (unpack_of session.now) settings.old).number) × (settings.new ≡ (settings_called (unpack_of session.now) settings.old).event) }
 {
     match crate::unpack(session) {

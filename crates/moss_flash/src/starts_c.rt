@@ -8,8 +8,7 @@ ghost use Rattle.moss_flash.specs.Calls.{opened_of, opened_start, called, took};
 use crate::Opened;
 
 // room: the length of the out buffer that each step will be lent.
-#[unsafe(no_mangle)]
-pub extern "C" fn moss_flash_read(
+pub fn moss_flash_read(
     session: &mut [u8],
     address: u32,
     size: u64,
@@ -25,8 +24,7 @@ pub extern "C" fn moss_flash_read(
 }
 
 // By 03.
-#[unsafe(no_mangle)]
-pub extern "C" fn moss_flash_legacy_read(
+pub fn moss_flash_legacy_read(
     session: &mut [u8],
     address: u32,
     size: u64,
@@ -42,8 +40,7 @@ pub extern "C" fn moss_flash_legacy_read(
 }
 
 // room: the length of the working buffer.
-#[unsafe(no_mangle)]
-pub extern "C" fn moss_flash_read_params(session: &mut [u8], room: u64, event: &mut [u8]) -> u8
+pub fn moss_flash_read_params(session: &mut [u8], room: u64, event: &mut [u8]) -> u8
     ensures { (result ≡ (called (opened_start session.old (length event.old)) session.old event.old [] (λ s. took (start_read_params s room) [])).number) × (session.new ≡ (called (opened_start session.old (length event.old)) session.old event.old [] (λ s. took (start_read_params s room) [])).session) × (event.new ≡ (called (opened_start session.old (length event.old)) session.old event.old [] (λ s. took (start_read_params s room) [])).event) }
 {
     match crate::open_start(session, event.len()) {
@@ -53,8 +50,7 @@ pub extern "C" fn moss_flash_read_params(session: &mut [u8], room: u64, event: &
 }
 
 // The whole chip.
-#[unsafe(no_mangle)]
-pub extern "C" fn moss_flash_erase(session: &mut [u8], event: &mut [u8]) -> u8
+pub fn moss_flash_erase(session: &mut [u8], event: &mut [u8]) -> u8
     ensures { (result ≡ (called (opened_start session.old (length event.old)) session.old event.old [] (λ s. took (start_erase s) [])).number) × (session.new ≡ (called (opened_start session.old (length event.old)) session.old event.old [] (λ s. took (start_erase s) [])).session) × (event.new ≡ (called (opened_start session.old (length event.old)) session.old event.old [] (λ s. took (start_erase s) [])).event) }
 {
     match crate::open_start(session, event.len()) {
@@ -64,13 +60,7 @@ pub extern "C" fn moss_flash_erase(session: &mut [u8], event: &mut [u8]) -> u8
 }
 
 // The sectors of a range.
-#[unsafe(no_mangle)]
-pub extern "C" fn moss_flash_erase_sectors(
-    session: &mut [u8],
-    address: u32,
-    size: u64,
-    event: &mut [u8],
-) -> u8
+pub fn moss_flash_erase_sectors(session: &mut [u8], address: u32, size: u64, event: &mut [u8]) -> u8
     ensures { (result ≡ (called (opened_start session.old (length event.old)) session.old event.old [] (λ s. took (start_erase_sectors s address size) [])).number) × (session.new ≡ (called (opened_start session.old (length event.old)) session.old event.old [] (λ s. took (start_erase_sectors s address size) [])).session) × (event.new ≡ (called (opened_start session.old (length event.old)) session.old event.old [] (λ s. took (start_erase_sectors s address size) [])).event) }
 {
     match crate::open_start(session, event.len()) {
@@ -80,8 +70,7 @@ pub extern "C" fn moss_flash_erase_sectors(
 }
 
 // By 66 and 99, or by F0.
-#[unsafe(no_mangle)]
-pub extern "C" fn moss_flash_reset(session: &mut [u8], event: &mut [u8]) -> u8
+pub fn moss_flash_reset(session: &mut [u8], event: &mut [u8]) -> u8
     ensures { (result ≡ (called (opened_start session.old (length event.old)) session.old event.old [] (λ s. took (start_reset s) [])).number) × (session.new ≡ (called (opened_start session.old (length event.old)) session.old event.old [] (λ s. took (start_reset s) [])).session) × (event.new ≡ (called (opened_start session.old (length event.old)) session.old event.old [] (λ s. took (start_reset s) [])).event) }
 {
     match crate::open_start(session, event.len()) {
@@ -91,8 +80,7 @@ pub extern "C" fn moss_flash_reset(session: &mut [u8], event: &mut [u8]) -> u8
 }
 
 // Bank, manufacturer and device.
-#[unsafe(no_mangle)]
-pub extern "C" fn moss_flash_read_jedec_id(session: &mut [u8], event: &mut [u8]) -> u8
+pub fn moss_flash_read_jedec_id(session: &mut [u8], event: &mut [u8]) -> u8
     ensures { (result ≡ (called (opened_start session.old (length event.old)) session.old event.old [] (λ s. took (start_read_jedec_id s) [])).number) × (session.new ≡ (called (opened_start session.old (length event.old)) session.old event.old [] (λ s. took (start_read_jedec_id s) [])).session) × (event.new ≡ (called (opened_start session.old (length event.old)) session.old event.old [] (λ s. took (start_read_jedec_id s) [])).event) }
 {
     match crate::open_start(session, event.len()) {
@@ -102,8 +90,7 @@ pub extern "C" fn moss_flash_read_jedec_id(session: &mut [u8], event: &mut [u8])
 }
 
 // One poll.
-#[unsafe(no_mangle)]
-pub extern "C" fn moss_flash_is_busy(session: &mut [u8], event: &mut [u8]) -> u8
+pub fn moss_flash_is_busy(session: &mut [u8], event: &mut [u8]) -> u8
     ensures { (result ≡ (called (opened_start session.old (length event.old)) session.old event.old [] (λ s. took (start_is_busy s) [])).number) × (session.new ≡ (called (opened_start session.old (length event.old)) session.old event.old [] (λ s. took (start_is_busy s) [])).session) × (event.new ≡ (called (opened_start session.old (length event.old)) session.old event.old [] (λ s. took (start_is_busy s) [])).event) }
 {
     match crate::open_start(session, event.len()) {
@@ -113,8 +100,7 @@ pub extern "C" fn moss_flash_is_busy(session: &mut [u8], event: &mut [u8]) -> u8
 }
 
 // One 05 read.
-#[unsafe(no_mangle)]
-pub extern "C" fn moss_flash_is_protected(session: &mut [u8], event: &mut [u8]) -> u8
+pub fn moss_flash_is_protected(session: &mut [u8], event: &mut [u8]) -> u8
     ensures { (result ≡ (called (opened_start session.old (length event.old)) session.old event.old [] (λ s. took (start_is_protected s) [])).number) × (session.new ≡ (called (opened_start session.old (length event.old)) session.old event.old [] (λ s. took (start_is_protected s) [])).session) × (event.new ≡ (called (opened_start session.old (length event.old)) session.old event.old [] (λ s. took (start_is_protected s) [])).event) }
 {
     match crate::open_start(session, event.len()) {
@@ -124,8 +110,7 @@ pub extern "C" fn moss_flash_is_protected(session: &mut [u8], event: &mut [u8]) 
 }
 
 // The data are copied into the working buffer, byte 0 of which stands for the first erased address. verify: 0 is no.
-#[unsafe(no_mangle)]
-pub extern "C" fn moss_flash_program(
+pub fn moss_flash_program(
     session: &mut [u8],
     address: u32,
     data: &[u8],
@@ -145,8 +130,7 @@ pub extern "C" fn moss_flash_program(
 }
 
 // The data are copied into the working buffer.
-#[unsafe(no_mangle)]
-pub extern "C" fn moss_flash_program_data(
+pub fn moss_flash_program_data(
     session: &mut [u8],
     address: u32,
     data: &[u8],
@@ -165,8 +149,7 @@ pub extern "C" fn moss_flash_program_data(
 }
 
 // The reply to the transaction that the session waits on. failed: 0 is no. work: the command's working or out buffer.
-#[unsafe(no_mangle)]
-pub extern "C" fn moss_flash_step(
+pub fn moss_flash_step(
     session: &mut [u8],
     failed: u8,
     reply: &[u8],
@@ -185,8 +168,7 @@ pub extern "C" fn moss_flash_step(
 }
 
 // What the session waits on, or its last answer, told again.
-#[unsafe(no_mangle)]
-pub extern "C" fn moss_flash_event(session: &[u8], event: &mut [u8]) -> u8
+pub fn moss_flash_event(session: &[u8], event: &mut [u8]) -> u8
     ensures { (result ≡ (called (opened_of session.now (length event.old)) session.now event.old [] (λ s. took (told s) [])).number) × (event.new ≡ (called (opened_of session.now (length event.old)) session.now event.old [] (λ s. took (told s) [])).event) }
 {
     match crate::open(session, event.len()) {
