@@ -150,8 +150,7 @@ fn fold_own(p: FlashParams) -> u64 {
 // ---- the benchmarks
 
 // A table read, and the fields that the Rust has too.
-#[unsafe(no_mangle)]
-pub extern "C" fn mg_bench_sfdp_shared(minor: u8, plen: u8, data: &[u8]) -> u64 {
+pub fn mg_bench_sfdp_shared(minor: u8, plen: u8, data: &[u8]) -> u64 {
     match FlashParams::from_bytes(minor, plen, data) {
         ReadParams::Params(p) => fold_shared(p),
         ReadParams::InvalidSFDPParams => 4,
@@ -159,8 +158,7 @@ pub extern "C" fn mg_bench_sfdp_shared(minor: u8, plen: u8, data: &[u8]) -> u64 
 }
 
 // A table read, and all its fields: more than the Rust reads.
-#[unsafe(no_mangle)]
-pub extern "C" fn mg_bench_sfdp(minor: u8, plen: u8, data: &[u8]) -> u64 {
+pub fn mg_bench_sfdp(minor: u8, plen: u8, data: &[u8]) -> u64 {
     match FlashParams::from_bytes(minor, plen, data) {
         ReadParams::Params(p) => sum(fold_shared(p), fold_own(p)),
         ReadParams::InvalidSFDPParams => 4,
@@ -231,8 +229,7 @@ fn walked(ts: EraseTypes, at: u32, last: u32) -> u64 {
 }
 
 // A plan from address 0 to a last address with three types, entry by entry.
-#[unsafe(no_mangle)]
-pub extern "C" fn mg_bench_plan(small: u32, middle: u32, large: u32, last: u32) -> u64 {
+pub fn mg_bench_plan(small: u32, middle: u32, large: u32, last: u32) -> u64 {
     let ts = erase_plan::sorted(
         type_of(large, 0xD8),
         type_of(small, 0x20),

@@ -6,8 +6,7 @@ use moss_flash::Unpacked;
 
 // ---- the all-FF test
 
-#[unsafe(no_mangle)]
-pub extern "C" fn mg_bench_blank(bytes: &[u8], len: u64) -> u64 {
+pub fn mg_bench_blank(bytes: &[u8], len: u64) -> u64 {
     if room::is_blank(bytes, 0, len) { 1 } else { 0 }
 }
 
@@ -23,15 +22,13 @@ fn pack(s: Session, out: &mut [u8], turns: u32) {
 }
 
 // The session is read once, without the tests, and packed so many times.
-#[unsafe(no_mangle)]
-pub extern "C" fn mg_bench_pack(session: &[u8], out: &mut [u8], turns: u32) {
+pub fn mg_bench_pack(session: &[u8], out: &mut [u8], turns: u32) {
     let s = packed::get(session);
     pack(s, out, turns);
 }
 
 // Unpacked as the exports do it: read, held to its rule, packed again and compared. 1 if the bytes are a session's, else 0.
-#[unsafe(no_mangle)]
-pub extern "C" fn mg_bench_unpack(session: &[u8]) -> u64 {
+pub fn mg_bench_unpack(session: &[u8]) -> u64 {
     match moss_flash::unpack(session) {
         Unpacked::Held(_) => 1,
         Unpacked::Bad => 0,

@@ -72,8 +72,7 @@ fn run(x: Stepped, part: &[u8], work: &mut [u8]) -> u64 {
 }
 
 // A program without verify on a part of 64 KiB with sectors of 4 KiB, all of it FF and always ready.
-#[unsafe(no_mangle)]
-pub extern "C" fn mg_bench_program(address: u32, data: &[u8], work: &mut [u8]) -> u64 {
+pub fn mg_bench_program(address: u32, data: &[u8], work: &mut [u8]) -> u64 {
     let sized = Session::new().set_erase_size(4096).session;
     let s = sized.set_capacity(65_536).session;
     let x = s.program(address, data, false, work);

@@ -1,0 +1,10 @@
+use mathlib.Core.Path.{◌≡◌, refl}
+use lib.ListN.{length}
+use borrow.Author.Rules.{rules}
+use Rattle.bench_parts.proofs.pack.Given as goal
+
+abbrev pub invariant-loop-left : goal.invariant-loop-left
+invariant-loop-left l = length l.out ≡ length l.initial.out
+
+abbrev pub decreases-loop-left : goal.decreases-loop-left
+decreases-loop-left l = l.left
