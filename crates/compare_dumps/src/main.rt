@@ -4,11 +4,14 @@
 
 mod show;
 
-ghost use Rattle.io.specs.Counts.{IsPrefixLen};
+ghost use Rattle.std.specs.Prelude.{◌≡◌, ◌≤◌, length, take};
 
 use dump_runs::{Comparison, Next};
 use files::Part;
 use show::Listing;
+use std::io;
+use std::io::Read;
+use std::rt::Files;
 
 // How it stands, or why it broke off.
 #[derive(Clone, Copy)]
@@ -32,15 +35,22 @@ pub struct State {
 }
 
 // Two open files.
-#[derive(Clone, Copy)]
-pub struct Pair {
-    pub first: i32,
-    pub second: i32,
+#[derive(Drop)]
+pub struct Pair<F> {
+    pub first: F,
+    pub second: F,
 }
 
 // The next part of a file; nothing once it has ended.
-fn next_part(fd: i32, name: &[u8], ended: bool, buf: &mut [u8]) -> Part
-    ensures { IsPrefixLen result.len buf.new }
+fn next_part<R: Eprint, F: Read>(
+    rt: &R,
+    file: &mut F,
+    name: &[u8],
+    ended: bool,
+    buf: &mut [u8],
+) -> Part
+    ensures bound { result.len ≤ length buf.new }
+    ensures prefix { result.len ≡ length (take result.len buf.new) }
 {
     if ended {
         return Part {
@@ -48,11 +58,19 @@ fn next_part(fd: i32, name: &[u8], ended: bool, buf: &mut [u8]) -> Part
             failed: false,
         };
     }
-    files::fill(fd, name, buf)
+    files::fill(rt, file, name, buf)
 }
 
 // Lists the runs that end in two parts; after is how it stands then.
-fn list(c: Comparison, l: Listing, space: &mut [u8], a: &[u8], b: &[u8], after: Stand) -> State {
+fn list<R: Print + Eprint>(
+    rt: &R,
+    c: Comparison,
+    l: Listing,
+    space: &mut [u8],
+    a: &[u8],
+    b: &[u8],
+    after: Stand,
+) -> State {
     let mut comparison = c;
     let mut listing = l;
     let mut at: usize = 0;
@@ -60,7 +78,7 @@ fn list(c: Comparison, l: Listing, space: &mut [u8], a: &[u8], b: &[u8], after: 
         let found = comparison.next_run(a, b, at);
         match found {
             Next::Found { run, next, then } => {
-                listing = listing.common(space, run);
+                listing = listing.common(rt, space, run);
                 comparison = then;
                 at = next;
             }
@@ -109,22 +127,29 @@ fn stand_after(p: Part, q: Part) -> Stand {
 }
 
 // The next parts of both files.
-fn turn(pair: Pair, one: &[u8], two: &[u8], space: &mut [u8], s: State) -> State {
+fn turn<R: Print + Eprint, F: Read>(
+    rt: &R,
+    pair: &mut Pair<F>,
+    one: &[u8],
+    two: &[u8],
+    space: &mut [u8],
+    s: State,
+) -> State {
     let stand = s.stand;
     match stand {
         Stand::Going {
             first_ended,
             second_ended,
         } => {
-            let mut a = io::buffer();
-            let mut b = io::buffer();
-            let p = next_part(pair.first, one, first_ended, &mut a);
-            let q = next_part(pair.second, two, second_ended, &mut b);
+            let mut a = [0u8; 4096];
+            let mut b = [0u8; 4096];
+            let p = next_part(rt, &mut pair.first, one, first_ended, &mut a);
+            let q = next_part(rt, &mut pair.second, two, second_ended, &mut b);
             let n = p.len;
             let m = q.len;
             let c = s.comparison;
             let l = s.listing;
-            list(c, l, space, &a[..n], &b[..m], stand_after(p, q))
+            list(rt, c, l, space, &a[..n], &b[..m], stand_after(p, q))
         }
         _ => s,
     }
@@ -140,7 +165,13 @@ fn is_going(s: State) -> bool {
 }
 
 // All parts: 2^52 of them would be 2^64 bytes.
-fn compare(pair: Pair, one: &[u8], two: &[u8], space: &mut [u8]) -> State {
+fn compare<R: Print + Eprint, F: Read>(
+    rt: &R,
+    pair: &mut Pair<F>,
+    one: &[u8],
+    two: &[u8],
+    space: &mut [u8],
+) -> State {
     let mut s = State {
         comparison: Comparison::new(),
         listing: Listing::new(),
@@ -151,7 +182,7 @@ fn compare(pair: Pair, one: &[u8], two: &[u8], space: &mut [u8]) -> State {
     };
     let mut turns: u64 = 0x10_0000_0000_0000;
     while turns > 0 {
-        s = turn(pair, one, two, space, s);
+        s = turn(rt, pair, one, two, space, s);
         if is_going(s) {
             turns -= 1;
         } else {
@@ -162,110 +193,122 @@ fn compare(pair: Pair, one: &[u8], two: &[u8], space: &mut [u8]) -> State {
 }
 
 // What the longer dump has past the other.
-fn tail(c: Comparison, l: Listing, space: &mut [u8]) -> Listing {
+fn tail<R: Print + Eprint>(rt: &R, c: Comparison, l: Listing, space: &mut [u8]) -> Listing {
     if 0 < c.first {
-        return l.run(space, c.tail(), b" only in the first dump");
+        return l.run(rt, space, c.tail(), b" only in the first dump");
     }
-    l.run(space, c.tail(), b" only in the second dump")
+    l.run(rt, space, c.tail(), b" only in the second dump")
 }
 
-fn verdict(c: Comparison, l: Listing, space: &mut [u8]) -> Listing {
+fn verdict<R: Print + Eprint>(rt: &R, c: Comparison, l: Listing, space: &mut [u8]) -> Listing {
     if l.runs == 0 {
-        return l.number(space, b"equal: bytes ", c.start);
+        return l.number(rt, space, b"equal: bytes ", c.start);
     }
-    l.number(space, b"differ: runs ", l.runs)
-        .number(space, b", bytes ", l.bytes)
+    l.number(rt, space, b"differ: runs ", l.runs)
+        .number(rt, space, b", bytes ", l.bytes)
 }
 
 // The run at the end of the common part, the tail, and the last line.
-fn close_list(c: Comparison, l: Listing, space: &mut [u8]) -> Listing {
-    let common = l.common(space, c.open_run());
-    let all = tail(c, common, space);
-    verdict(c, all, space).text(space, b"\n")
+fn close_list<R: Print + Eprint>(rt: &R, c: Comparison, l: Listing, space: &mut [u8]) -> Listing {
+    let common = l.common(rt, space, c.open_run());
+    let all = tail(rt, c, common, space);
+    verdict(rt, c, all, space).text(rt, space, b"\n")
 }
 
-fn finish(s: State, space: &mut [u8]) -> Listing {
+fn finish<R: Print + Eprint>(rt: &R, s: State, space: &mut [u8]) -> Listing {
     let stand = s.stand;
     let l = s.listing;
     match stand {
         Stand::Ended => {
             let c = s.comparison;
-            close_list(c, l, space)
+            close_list(rt, c, l, space)
         }
         Stand::FirstUnread => l.text(
+            rt,
             space,
             b"error: the first dump could not be read to its end, runs are missing; copy it anew and compare again\n",
         ),
         Stand::SecondUnread => l.text(
+            rt,
             space,
             b"error: the second dump could not be read to its end, runs are missing; copy it anew and compare again\n",
         ),
         Stand::PastEnd => l.text(
+            rt,
             space,
             b"error: a dump grew while it was read, runs are missing; compare copies of both\n",
         ),
         _ => l.text(
+            rt,
             space,
             b"error: a dump has 2^64 - 1 bytes or more, runs are missing; compare parts of it\n",
         ),
     }
 }
 
-fn compare_open(pair: Pair, one: &[u8], two: &[u8]) {
-    let mut space = io::large_buffer();
-    let s = compare(pair, one, two, &mut space);
-    let l = finish(s, &mut space);
-    l.flush(&space);
+fn compare_open<R: Print + Eprint, F: Read>(rt: &R, pair: &mut Pair<F>, one: &[u8], two: &[u8]) {
+    let mut space = [0u8; 65536];
+    let s = compare(rt, pair, one, two, &mut space);
+    let l = finish(rt, s, &mut space);
+    l.flush(rt, &space);
 }
 
-fn say(s: &[u8]) {
-    io::write_all(libc::STDOUT_FILENO, s);
+fn say<R: Print>(rt: &R, s: &str) -> io::Result<()> {
+    rt.println(s)
 }
 
-fn compare_named(one: &[u8], two: &[u8]) {
-    let first = files::open(one);
-    if first < 0 {
-        say(
-            b"error: the first dump cannot be read; see that the name is right, that it is a file and that you may read it\n",
+fn compare_named<R: Files + Print + Eprint>(rt: &R, one: &[u8], two: &[u8]) -> io::Result<()> {
+    let Some(first) = files::open(rt, one) else {
+        return say(
+            rt,
+            "error: the first dump cannot be read; see that the name is right, that it is a file and that you may read it",
         );
-        return;
-    }
-    let second = files::open(two);
-    if second < 0 {
-        say(
-            b"error: the second dump cannot be read; see that the name is right, that it is a file and that you may read it\n",
+    };
+    let Some(second) = files::open(rt, two) else {
+        return say(
+            rt,
+            "error: the second dump cannot be read; see that the name is right, that it is a file and that you may read it",
         );
-        libc::close(first);
-        return;
-    }
-    compare_open(Pair { first, second }, one, two);
-    libc::close(first);
-    libc::close(second);
+    };
+    let mut pair = Pair { first, second };
+    compare_open(rt, &mut pair, one, two);
+    Ok(())
 }
 
-fn help() {
+fn help<R: Print>(rt: &R) -> io::Result<()> {
     say(
-        b"compare_dumps FIRST SECOND lists every differing run of two files: where it starts (hexadecimal), its length in bytes, and\n",
-    );
+        rt,
+        "compare_dumps FIRST SECOND lists every differing run of two files: where it starts (hexadecimal), its length in bytes, and",
+    )?;
     say(
-        b"the index of each 4,096-byte block that it meets. What only the longer file has is one last run.\n",
-    );
-    say(b"The last line begins with equal, differ or error; a listing without one is not whole.\n");
-    say(b"tools/compare-dumps does the same with an exit status: 0 equal, 1 differ, 2 error.\n");
+        rt,
+        "the index of each 4,096-byte block that it meets. What only the longer file has is one last run.",
+    )?;
+    say(
+        rt,
+        "The last line begins with equal, differ or error; a listing without one is not whole.",
+    )?;
+    say(
+        rt,
+        "tools/compare-dumps does the same with an exit status: 0 equal, 1 differ, 2 error.",
+    )
 }
 
-fn main() {
-    let mut one = io::buffer();
-    let mut two = io::buffer();
-    let n = os::arg(1, &mut one);
-    let is_one = os::errno() == 0;
-    let m = os::arg(2, &mut two);
-    let is_two = os::errno() == 0;
+fn main(rt: HostRuntime) -> io::Result<()> {
+    let mut one = [0u8; 4096];
+    let mut two = [0u8; 4096];
+    let first = files::argument(&rt, 1, &mut one);
+    let second = files::argument(&rt, 2, &mut two);
+    let n = first.len;
+    let m = second.len;
     if files::is_help(&one[..n]) {
-        help();
-    } else if is_one & is_two & (os::arg_count() == 3) {
-        compare_named(&one[..n], &two[..m]);
-    } else {
-        say(b"error: two names are needed: compare_dumps FIRST SECOND, the files of two dumps\n");
+        return help(&rt);
     }
+    if first.failed | second.failed | !files::is_missing(&rt, 3) {
+        return say(
+            &rt,
+            "error: two names are needed: compare_dumps FIRST SECOND, the files of two dumps",
+        );
+    }
+    compare_named(&rt, &one[..n], &two[..m])
 }

@@ -10,10 +10,10 @@ mod shapes;
 
 ghost use Rattle.std.specs.Prelude.{◌≤◌};
 
-use libc::STDOUT_FILENO;
 use part_host::source::Numbers;
 use part_host::{Call, source};
 use runs::{Run, Totals, World};
+use std::io;
 
 // ---- sequences
 
@@ -107,7 +107,7 @@ fn sequence(w: World, busy: u64, source: u64, memory: &mut [u8], image: &mut [u8
     put_contents(source, memory, image);
     let mut area = [0xFFu8; 80];
     shapes::put_area(shape, &mut area);
-    let mut work = io::buffer();
+    let mut work = [0u8; 4096];
     run_all(w, busy, source, &mut work, memory, image, &area)
 }
 
@@ -133,8 +133,8 @@ fn draw_world(n: Numbers, flaw: u8) -> World {
 
 // One sequence: on a part that is idle at first, or not.
 fn one(seed: u64, flaw: u8) -> Totals {
-    let mut memory = io::buffer();
-    let mut image = io::buffer();
+    let mut memory = [0u8; 4096];
+    let mut image = [0u8; 4096];
     let n = source::six(seed);
     let busy = if flaw == shapes::BUSY { 3 } else { 0 };
     on_part(draw_world(n, flaw), busy, n.state, &mut memory, &mut image)
@@ -154,36 +154,32 @@ fn many(count: u64, flaw: u8) -> Totals {
 
 // ---- what is printed
 
-fn number(text: &[u8], n: u64) {
-    io::write_all(STDOUT_FILENO, text);
-    io::print_decimal(STDOUT_FILENO, n);
+fn show<R: Print>(rt: &R, t: Totals) -> io::Result<()> {
+    let sequences = t.sequences;
+    let setters = t.setters;
+    let commands = t.commands;
+    let accepted = t.accepted;
+    let refused = t.refused;
+    let transactions = t.transactions;
+    let mismatches = t.mismatches;
+    print!(rt; "fitting parts: sequences {sequences}, setters {setters}, commands {commands}")?;
+    print!(rt; ", accepted {accepted}, refused {refused}")?;
+    println!(rt; ", transactions {transactions}, mismatches {mismatches}")
 }
 
-fn show(t: Totals) {
-    number(b"fitting parts: sequences ", t.sequences);
-    number(b", setters ", t.setters);
-    number(b", commands ", t.commands);
-    number(b", accepted ", t.accepted);
-    number(b", refused ", t.refused);
-    number(b", transactions ", t.transactions);
-    number(b", mismatches ", t.mismatches);
-    io::write_all(STDOUT_FILENO, b"\n");
-}
-
-fn show_broken(text: &[u8], flaw: u8) {
+fn show_broken<R: Print>(rt: &R, text: &str, flaw: u8) -> io::Result<()> {
     let t = many(64, flaw);
-    io::write_all(STDOUT_FILENO, text);
-    number(b": the conclusion fails in ", t.broken);
-    number(b" of ", t.sequences);
-    io::write_all(STDOUT_FILENO, b" sequences\n");
+    let broken = t.broken;
+    let sequences = t.sequences;
+    println!(rt; "{text}: the conclusion fails in {broken} of {sequences} sequences")
 }
 
-fn main() {
-    show(many(512, shapes::NOTHING));
-    show_broken(b"poll not offered", shapes::POLL);
-    show_broken(b"other address bytes", shapes::ADDRESS);
-    show_broken(b"page that the driver's does not divide", shapes::PAGE);
-    show_broken(b"busy beyond the limit", shapes::SLOW);
-    show_broken(b"not idle at first", shapes::BUSY);
-    show_broken(b"erase opcode of another size", shapes::SIZE);
+fn main(rt: HostRuntime) -> io::Result<()> {
+    show(&rt, many(512, shapes::NOTHING))?;
+    show_broken(&rt, "poll not offered", shapes::POLL)?;
+    show_broken(&rt, "other address bytes", shapes::ADDRESS)?;
+    show_broken(&rt, "page that the driver's does not divide", shapes::PAGE)?;
+    show_broken(&rt, "busy beyond the limit", shapes::SLOW)?;
+    show_broken(&rt, "not idle at first", shapes::BUSY)?;
+    show_broken(&rt, "erase opcode of another size", shapes::SIZE)
 }

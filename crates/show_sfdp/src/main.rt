@@ -1,195 +1,191 @@
 // Prints what the SFDP area in a file says of its part. The argument is the file's name.
 #![tactic(auto)]
 
-use libc::STDOUT_FILENO;
 use sfdp::{
     FlashParams, ReadArea, SFDPAddressBytes, SFDPEraseInst, SFDPStatus1Volatility, SFDPTiming,
     SectorErase,
 };
+use std::io;
+use std::rt::Files;
 
-fn text(s: &[u8]) {
-    io::write_all(STDOUT_FILENO, s);
-}
-
-fn number(s: &[u8], n: u64) {
-    text(s);
-    io::print_decimal(STDOUT_FILENO, n);
-}
-
-fn opcode(s: &[u8], n: u8) {
-    text(s);
-    io::print_hex(STDOUT_FILENO, n as u64, 2);
-}
-
-fn yes_or_no(s: &[u8], yes: bool) {
-    text(s);
+fn yes_or_no<R: Print>(rt: &R, label: &str, yes: bool) -> io::Result<()> {
     if yes {
-        text(b"yes\n");
+        println!(rt; "{label}yes")
     } else {
-        text(b"no\n");
+        println!(rt; "{label}no")
     }
 }
 
-fn times(s: &[u8], typical: u32, maximum: u64) {
-    number(s, typical as u64);
-    number(b" us, at most ", maximum);
-    text(b" us");
+fn times<R: Print>(rt: &R, label: &str, typical: u32, maximum: u64) -> io::Result<()> {
+    print!(rt; "{label}{typical} us, at most {maximum} us")
 }
 
-fn show_address(a: SFDPAddressBytes) {
+fn show_address<R: Print>(rt: &R, a: SFDPAddressBytes) -> io::Result<()> {
     match a {
-        SFDPAddressBytes::Three => text(b"address bytes        three\n"),
-        SFDPAddressBytes::ThreeOrFour => text(b"address bytes        three or four\n"),
-        SFDPAddressBytes::Four => text(b"address bytes        four\n"),
-        SFDPAddressBytes::Reserved => text(b"address bytes        a reserved code\n"),
+        SFDPAddressBytes::Three => println!(rt; "address bytes        three"),
+        SFDPAddressBytes::ThreeOrFour => println!(rt; "address bytes        three or four"),
+        SFDPAddressBytes::Four => println!(rt; "address bytes        four"),
+        SFDPAddressBytes::Reserved => println!(rt; "address bytes        a reserved code"),
     }
 }
 
-fn show_volatility(v: SFDPStatus1Volatility) {
+fn show_volatility<R: Print>(rt: &R, v: SFDPStatus1Volatility) -> io::Result<()> {
     match v {
-        SFDPStatus1Volatility::NonVolatile06 => text(b"status register 1    kept, enable by 06\n"),
-        SFDPStatus1Volatility::Volatile06 => text(b"status register 1    lost, enable by 06\n"),
-        SFDPStatus1Volatility::Volatile50 => text(b"status register 1    lost, enable by 50\n"),
+        SFDPStatus1Volatility::NonVolatile06 => {
+            println!(rt; "status register 1    kept, enable by 06")
+        }
+        SFDPStatus1Volatility::Volatile06 => {
+            println!(rt; "status register 1    lost, enable by 06")
+        }
+        SFDPStatus1Volatility::Volatile50 => {
+            println!(rt; "status register 1    lost, enable by 50")
+        }
         SFDPStatus1Volatility::NonVolatile06Volatile50 => {
-            text(b"status register 1    kept by 06, lost by 50\n")
+            println!(rt; "status register 1    kept by 06, lost by 50")
         }
-        SFDPStatus1Volatility::Mixed06 => text(b"status register 1    mixed, enable by 06\n"),
-        SFDPStatus1Volatility::Reserved => text(b"status register 1    a reserved code\n"),
+        SFDPStatus1Volatility::Mixed06 => {
+            println!(rt; "status register 1    mixed, enable by 06")
+        }
+        SFDPStatus1Volatility::Reserved => println!(rt; "status register 1    a reserved code"),
     }
 }
 
-fn show_inst(e: SFDPEraseInst) {
+fn show_inst<R: Print>(rt: &R, e: SFDPEraseInst) -> io::Result<()> {
     if e.size == 0 {
-        return;
+        return Ok(());
     }
-    opcode(b"erase instruction    ", e.opcode);
-    number(b", ", e.size as u64);
-    text(b" bytes");
+    let opcode = e.opcode;
+    let size = e.size;
+    print!(rt; "erase instruction    {opcode:02x}, {size} bytes")?;
     if e.timed {
-        times(b", ", e.time_typ, e.time_max);
+        times(rt, ", ", e.time_typ, e.time_max)?;
     }
-    text(b"\n");
+    println!(rt)
 }
 
-fn show_insts(p: FlashParams) {
+fn show_insts<R: Print>(rt: &R, p: FlashParams) -> io::Result<()> {
     let s = p.erase_insts;
-    show_inst(s.inst1);
-    show_inst(s.inst2);
-    show_inst(s.inst3);
-    show_inst(s.inst4);
+    show_inst(rt, s.inst1)?;
+    show_inst(rt, s.inst2)?;
+    show_inst(rt, s.inst3)?;
+    show_inst(rt, s.inst4)?;
     match p.sector_erase() {
-        SectorErase::Smallest(size, op) => {
-            number(b"smallest             ", size as u64);
-            opcode(b" bytes by ", op);
-            text(b"\n");
+        SectorErase::Smallest(size, opcode) => {
+            println!(rt; "smallest             {size} bytes by {opcode:02x}")
         }
-        SectorErase::Nothing => text(b"smallest             none\n"),
+        SectorErase::Nothing => println!(rt; "smallest             none"),
     }
 }
 
-fn show_timing(t: SFDPTiming) {
+fn show_timing<R: Print>(rt: &R, t: SFDPTiming) -> io::Result<()> {
     times(
-        b"chip erase           ",
+        rt,
+        "chip erase           ",
         t.chip_erase_time_typ,
         t.chip_erase_time_max,
-    );
+    )?;
     times(
-        b"\npage program         ",
+        rt,
+        "\npage program         ",
         t.page_prog_time_typ,
         t.page_prog_time_max,
-    );
+    )?;
     times(
-        b"\nfirst byte           ",
+        rt,
+        "\nfirst byte           ",
         t.first_byte_prog_time_typ,
         t.first_byte_prog_time_max,
-    );
+    )?;
     times(
-        b"\nlater bytes          ",
+        rt,
+        "\nlater bytes          ",
         t.succ_byte_prog_time_typ,
         t.succ_byte_prog_time_max,
-    );
-    text(b"\n");
+    )?;
+    println!(rt)
 }
 
-fn show_extended(p: FlashParams) {
-    if p.jesd216a {
-        let t = p.timing;
-        let v = p.status_1_vol;
-        show_timing(t);
-        number(b"page size            ", p.page_size as u64);
-        yes_or_no(b"\npoll by flag status  ", p.busy_poll_flag);
-        yes_or_no(b"poll by status 1     ", p.busy_poll_status);
-        yes_or_no(b"reset by F0          ", p.reset_inst_f0);
-        yes_or_no(b"reset by 66, 99      ", p.reset_inst_66_99);
-        show_volatility(v);
-    } else {
-        text(b"dwords 10 to 16      not there: times, page size, polling and reset unknown\n");
+fn show_extended<R: Print>(rt: &R, p: FlashParams) -> io::Result<()> {
+    if !p.jesd216a {
+        return println!(rt;
+            "dwords 10 to 16      not there: times, page size, polling and reset unknown"
+        );
     }
+    let size = p.page_size;
+    show_timing(rt, p.timing)?;
+    println!(rt; "page size            {size}")?;
+    yes_or_no(rt, "poll by flag status  ", p.busy_poll_flag)?;
+    yes_or_no(rt, "poll by status 1     ", p.busy_poll_status)?;
+    yes_or_no(rt, "reset by F0          ", p.reset_inst_f0)?;
+    yes_or_no(rt, "reset by 66, 99      ", p.reset_inst_66_99)?;
+    show_volatility(rt, p.status_1_vol)
 }
 
-fn show(p: FlashParams) {
-    let a = p.address_bytes;
-    number(b"table version        1.", p.version_minor as u64);
-    number(b"\ndensity              ", p.density);
-    number(b" bits, ", p.capacity_bytes());
-    text(b" bytes\n");
-    show_address(a);
-    yes_or_no(b"4 KiB erase          ", p.legacy_4kb_erase_supported);
-    opcode(b"4 KiB opcode         ", p.legacy_4kb_erase_inst);
-    text(b"\n");
-    show_insts(p);
-    show_extended(p);
+fn show<R: Print>(rt: &R, p: FlashParams) -> io::Result<()> {
+    let minor = p.version_minor;
+    let density = p.density;
+    let bytes = p.capacity_bytes();
+    let opcode = p.legacy_4kb_erase_inst;
+    println!(rt; "table version        1.{minor}")?;
+    println!(rt; "density              {density} bits, {bytes} bytes")?;
+    show_address(rt, p.address_bytes)?;
+    yes_or_no(rt, "4 KiB erase          ", p.legacy_4kb_erase_supported)?;
+    println!(rt; "4 KiB opcode         {opcode:02x}")?;
+    show_insts(rt, p)?;
+    show_extended(rt, p)
 }
 
-fn answer(r: ReadArea) {
+fn answer<R: Print>(rt: &R, r: ReadArea) -> io::Result<()> {
     match r {
-        ReadArea::Params(p) => show(p),
-        ReadArea::NoSFDP => text(
-            b"answer 12: no SFDP signature; set the part's size and erase type by hand\n",
+        ReadArea::Params(p) => show(rt, p),
+        ReadArea::NoSFDP => println!(rt;
+            "answer 12: no SFDP signature; set the part's size and erase type by hand"
         ),
-        ReadArea::InvalidSFDPHeader => {
-            text(b"answer 3: the first parameter header is not the basic table, major 1\n")
-        }
-        ReadArea::InvalidSFDPParams => {
-            text(b"answer 4: fewer than 9 dwords, or a size or density out of range\n")
-        }
+        ReadArea::InvalidSFDPHeader => println!(rt;
+            "answer 3: the first parameter header is not the basic table, major 1"
+        ),
+        ReadArea::InvalidSFDPParams => println!(rt;
+            "answer 4: fewer than 9 dwords, or a size or density out of range"
+        ),
     }
 }
 
-fn help() {
-    text(
-        b"show_sfdp FILE prints what the SFDP area in a file says of its part. The file has the area from address 0 on, as a read by\n",
-    );
-    text(
-        b"command 5A gives it. Linux has a part's table in /sys/bus/spi/devices/*/spi-nor/sfdp.\n",
-    );
-    text(
-        b"An area that the driver refuses is told by its answer, 3, 4 or 12. A file that cannot be read is an error.\n",
-    );
+fn help<R: Print>(rt: &R) -> io::Result<()> {
+    println!(rt;
+        "show_sfdp FILE prints what the SFDP area in a file says of its part. The file has the area from address 0 on, as a read by"
+    )?;
+    println!(rt;
+        "command 5A gives it. Linux has a part's table in /sys/bus/spi/devices/*/spi-nor/sfdp."
+    )?;
+    println!(rt;
+        "An area that the driver refuses is told by its answer, 3, 4 or 12. A file that cannot be read is an error."
+    )
 }
 
-fn show_file(name: &[u8]) {
-    let mut buf = io::large_buffer();
-    let area = files::read(name, &mut buf);
+fn show_file<R: Files + Print + Eprint>(rt: &R, name: &[u8]) -> io::Result<()> {
+    let mut buf = [0u8; 65536];
+    let area = files::read(rt, name, &mut buf);
     let n = area.len;
     if area.failed {
-        text(
-            b"error: the file cannot be read; see that the name is right, that it is a file and that you may read it\n",
-        );
+        println!(rt;
+            "error: the file cannot be read; see that the name is right, that it is a file and that you may read it"
+        )
     } else {
-        answer(sfdp::read_area(&buf[..n]));
+        answer(rt, sfdp::read_area(&buf[..n]))
     }
 }
 
-fn main() {
-    let mut name = io::buffer();
-    let n = os::arg(1, &mut name);
-    let is_one = os::errno() == 0;
+fn main(rt: HostRuntime) -> io::Result<()> {
+    let mut name = [0u8; 4096];
+    let first = files::argument(&rt, 1, &mut name);
+    let n = first.len;
     if files::is_help(&name[..n]) {
-        help();
-    } else if is_one & (os::arg_count() == 2) {
-        show_file(&name[..n]);
-    } else {
-        text(b"error: a name is needed: show_sfdp FILE, an SFDP area from address 0 on\n");
+        return help(&rt);
     }
+    if first.failed | !files::is_missing(&rt, 2) {
+        return println!(rt;
+            "error: a name is needed: show_sfdp FILE, an SFDP area from address 0 on"
+        );
+    }
+    show_file(&rt, &name[..n])
 }

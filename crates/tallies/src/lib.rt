@@ -3,8 +3,11 @@
 #![tactic(auto)]
 
 ghost use Rattle.std.specs.Prelude.{◌-◌, ◌<◌, ◌≤◌};
+ghost use Rattle.std.specs.Io.{ReadsAtMost};
 
-use libc::STDOUT_FILENO;
+use std::io;
+use std::io::Read;
+use std::rt::Files;
 
 pub const SAME: u8 = 0;
 // A difference that is on no list.
@@ -98,24 +101,40 @@ impl Totals {
 }
 
 // Opens a list, or says on standard error why it cannot.
-pub fn open(path: &[u8]) -> i32 {
-    let fd = os::open_read(path);
-    if fd < 0 {
-        os::fail(path);
+pub fn open<R: Files + Eprint>(rt: &R, path: &[u8]) -> Option<R::File> {
+    match files::open_named(rt, path) {
+        Ok(list) => Some(list),
+        Err(e) => {
+            files::fail(rt, path, &e);
+            None
+        }
     }
-    fd
 }
 
-pub fn line(text: &[u8], n: u64) {
-    io::write_all(STDOUT_FILENO, text);
-    io::print_decimal(STDOUT_FILENO, n);
-    io::write_all(STDOUT_FILENO, b"\n");
+// Reads until the buffer is full or the list ends, and answers how many bytes came.
+pub fn fill<F: Read>(list: &mut F, buf: &mut [u8]) -> io::Result<usize>
+    ensures { ReadsAtMost result buf.new }
+{
+    let mut done: usize = 0;
+    while done < buf.len() {
+        let n = list.read(&mut buf[done..])?;
+        if n == 0 {
+            break;
+        }
+        done += n;
+    }
+    Ok(done)
 }
 
-pub fn show_unlisted(t: Totals) {
-    line(b"differ and are on no list: ", t.of(UNLISTED));
+pub fn line<R: Print>(rt: &R, text: &[u8], n: u64) -> io::Result<()> {
+    rt.write_all(text)?;
+    rt.println(n)
 }
 
-pub fn show_first(t: Totals) {
-    line(b"number of the first of those, 0 for none: ", t.first);
+pub fn show_unlisted<R: Print>(rt: &R, t: Totals) -> io::Result<()> {
+    line(rt, b"differ and are on no list: ", t.of(UNLISTED))
+}
+
+pub fn show_first<R: Print>(rt: &R, t: Totals) -> io::Result<()> {
+    line(rt, b"number of the first of those, 0 for none: ", t.first)
 }

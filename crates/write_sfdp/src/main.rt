@@ -2,32 +2,17 @@
 // file for the 80 bytes.
 #![tactic(auto)]
 
-use libc::STDOUT_FILENO;
 use sfdp::{FlashParams, ReadArea};
-
-fn text(s: &[u8]) {
-    io::write_all(STDOUT_FILENO, s);
-}
+use std::fs::OpenOptions;
+use std::io;
+use std::io::Write;
+use std::rt::Files;
 
 // An area that is not read, by its answer.
-fn refuse(number: u8) {
-    text(b"answer ");
-    io::print_decimal(STDOUT_FILENO, number as u64);
-    text(b": nothing is written, since the driver does not read this area; show_sfdp says why\n");
-}
-
-fn is_same(a: &[u8], b: &[u8]) -> bool {
-    if a.len() != b.len() {
-        return false;
-    }
-    let mut i: usize = 0;
-    while i < a.len() {
-        if a[i] != b[i] {
-            return false;
-        }
-        i += 1;
-    }
-    true
+fn refuse<R: Print>(rt: &R, number: u8) -> io::Result<()> {
+    println!(rt;
+        "answer {number}: nothing is written, since the driver does not read this area; show_sfdp says why"
+    )
 }
 
 // Whether an area is written as this table.
@@ -36,103 +21,103 @@ fn is_written_as(area: &[u8], table: &[u8]) -> bool {
         ReadArea::Params(p) => {
             let mut again = [0u8; 80];
             sfdp_write::write_table(p, &mut again);
-            is_same(&again, table)
+            again.as_slice() == table
         }
         _ => false,
     }
 }
 
+// Makes a new file that has the table.
+fn write_new<R: Files>(rt: &R, name: &[u8], table: &[u8]) -> io::Result<()> {
+    let mut file = OpenOptions::new()
+        .write(true)
+        .create_new(true)
+        .open(rt, files::path(name)?)?;
+    file.write_all(table)
+}
+
 // A new file. Its name and the system's reason go to standard error if it cannot be made or written.
-fn save(name: &[u8], table: &[u8]) -> bool {
-    let fd = os::create(name);
-    if fd < 0 {
-        os::fail(name);
-        return false;
+fn save<R: Files + Eprint>(rt: &R, name: &[u8], table: &[u8]) -> bool {
+    match write_new(rt, name, table) {
+        Ok(()) => true,
+        Err(e) => {
+            files::fail(rt, name, &e);
+            false
+        }
     }
-    let is_whole = io::write_all(fd, table);
-    if !is_whole {
-        os::fail(name);
-    }
-    libc::close(fd);
-    is_whole
 }
 
 // Reads the new file, and holds what was read against what was written.
-fn is_kept(name: &[u8], table: &[u8]) -> bool {
-    let mut buf = io::buffer();
-    let kept = files::read(name, &mut buf);
+fn is_kept<R: Files + Eprint>(rt: &R, name: &[u8], table: &[u8]) -> bool {
+    let mut buf = [0u8; 4096];
+    let kept = files::read(rt, name, &mut buf);
     let n = kept.len;
-    if is_same(&buf[..n], table) {
+    if &buf[..n] == table {
         return is_written_as(&buf[..n], table);
     }
     false
 }
 
-fn save_table(name: &[u8], table: &[u8]) {
-    if save(name, table) {
-        if is_kept(name, table) {
-            text(
-                b"written: 80 bytes; read again they give the same parameters, with the minor 6\n",
-            );
-            return;
-        }
+fn save_table<R: Files + Print + Eprint>(rt: &R, name: &[u8], table: &[u8]) -> io::Result<()> {
+    if save(rt, name, table) && is_kept(rt, name, table) {
+        return println!(rt;
+            "written: 80 bytes; read again they give the same parameters, with the minor 6"
+        );
     }
-    text(
-        b"error: the table could not be written; see that no file has this name, and that there is room\n",
-    );
+    println!(rt;
+        "error: the table could not be written; see that no file has this name, and that there is room"
+    )
 }
 
-fn write(p: FlashParams, name: &[u8]) {
+fn write<R: Files + Print + Eprint>(rt: &R, p: FlashParams, name: &[u8]) -> io::Result<()> {
     let mut table = [0u8; 80];
     if sfdp_write::write_table(p, &mut table).number() == 0 {
-        save_table(name, &table);
-        return;
+        return save_table(rt, name, &table);
     }
-    text(
-        b"answer 15: nothing is written, since no table of 16 dwords has these parameters exactly (one of fewer dwords has no times, page size, polling and reset)\n",
-    );
+    println!(rt;
+        "answer 15: nothing is written, since no table of 16 dwords has these parameters exactly (one of fewer dwords has no times, page size, polling and reset)"
+    )
 }
 
-fn write_from(area: &[u8], name: &[u8]) {
-    let mut buf = io::large_buffer();
-    let part = files::read(area, &mut buf);
+fn write_from<R: Files + Print + Eprint>(rt: &R, area: &[u8], name: &[u8]) -> io::Result<()> {
+    let mut buf = [0u8; 65536];
+    let part = files::read(rt, area, &mut buf);
     let n = part.len;
     if part.failed {
-        text(
-            b"error: the area cannot be read; see that the name is right, that it is a file and that you may read it\n",
+        return println!(rt;
+            "error: the area cannot be read; see that the name is right, that it is a file and that you may read it"
         );
-        return;
     }
     let r = sfdp::read_area(&buf[..n]);
     match r {
-        ReadArea::Params(p) => write(p, name),
-        _ => refuse(r.number()),
+        ReadArea::Params(p) => write(rt, p, name),
+        _ => refuse(rt, r.number()),
     }
 }
 
-fn help() {
-    text(
-        b"write_sfdp AREA NEW writes the SFDP area of an emulated part, 80 bytes, to a new file. AREA is a file with the area of a real part\n",
-    );
-    text(
-        b"from address 0 on. Fields that the driver does not read, fast reads among them, are 0. The last line begins with written, answer or error.\n",
-    );
+fn help<R: Print>(rt: &R) -> io::Result<()> {
+    println!(rt;
+        "write_sfdp AREA NEW writes the SFDP area of an emulated part, 80 bytes, to a new file. AREA is a file with the area of a real part"
+    )?;
+    println!(rt;
+        "from address 0 on. Fields that the driver does not read, fast reads among them, are 0. The last line begins with written, answer or error."
+    )
 }
 
-fn main() {
-    let mut one = io::buffer();
-    let mut two = io::buffer();
-    let n = os::arg(1, &mut one);
-    let is_one = os::errno() == 0;
-    let m = os::arg(2, &mut two);
-    let is_two = os::errno() == 0;
+fn main(rt: HostRuntime) -> io::Result<()> {
+    let mut one = [0u8; 4096];
+    let mut two = [0u8; 4096];
+    let first = files::argument(&rt, 1, &mut one);
+    let second = files::argument(&rt, 2, &mut two);
+    let n = first.len;
+    let m = second.len;
     if files::is_help(&one[..n]) {
-        help();
-    } else if is_one & is_two & (os::arg_count() == 3) {
-        write_from(&one[..n], &two[..m]);
-    } else {
-        text(
-            b"error: two names are needed: write_sfdp AREA NEW, a file with an SFDP area and a new file\n",
+        return help(&rt);
+    }
+    if first.failed | second.failed | !files::is_missing(&rt, 3) {
+        return println!(rt;
+            "error: two names are needed: write_sfdp AREA NEW, a file with an SFDP area and a new file"
         );
     }
+    write_from(&rt, &one[..n], &two[..m])
 }
