@@ -34,6 +34,16 @@ pub struct State {
     pub stand: Stand,
 }
 
+impl State {
+    fn new(comparison: Comparison, listing: Listing, stand: Stand) -> State {
+        State {
+            comparison,
+            listing,
+            stand,
+        }
+    }
+}
+
 // Two open files.
 #[derive(Drop)]
 pub struct Pair<F> {
@@ -82,27 +92,9 @@ fn list<R: Print + Eprint>(
                 comparison = then;
                 at = next;
             }
-            Next::More(then) => {
-                return State {
-                    comparison: then,
-                    listing,
-                    stand: after,
-                };
-            }
-            Next::PastEnd => {
-                return State {
-                    comparison,
-                    listing,
-                    stand: Stand::PastEnd,
-                };
-            }
-            Next::TooLong => {
-                return State {
-                    comparison,
-                    listing,
-                    stand: Stand::TooLong,
-                };
-            }
+            Next::More(then) => return State::new(then, listing, after),
+            Next::PastEnd => return State::new(comparison, listing, Stand::PastEnd),
+            Next::TooLong => return State::new(comparison, listing, Stand::TooLong),
         }
     }
 }
