@@ -52,7 +52,7 @@ fn all<F: Read>(list: &mut F) -> io::Result<Totals> {
     Ok(t)
 }
 
-fn show_commands<R: Print>(rt: &R, t: Totals) -> io::Result<()> {
+fn show_erases<R: Print>(rt: &R, t: Totals) -> io::Result<()> {
     line(
         rt,
         b"C1 erase_sectors up to 2^32, the Rust panics: ",
@@ -62,7 +62,10 @@ fn show_commands<R: Print>(rt: &R, t: Totals) -> io::Result<()> {
         rt,
         b"C2 erase_sectors of 2^32 bytes, the Rust refuses: ",
         t.of(classes::C2),
-    )?;
+    )
+}
+
+fn show_programs<R: Print>(rt: &R, t: Totals) -> io::Result<()> {
     line(
         rt,
         b"C3 program up to 2^32, the Rust panics: ",
@@ -176,7 +179,8 @@ fn show<R: Print>(rt: &R, t: Totals) -> io::Result<()> {
         b"agree in answer, transactions, polls, bytes and settings: ",
         t.of(SAME),
     )?;
-    show_commands(rt, t)?;
+    show_erases(rt, t)?;
+    show_programs(rt, t)?;
     show_replies(rt, t)?;
     show_ranges(rt, t)?;
     show_sfdp(rt, t)?;
