@@ -2,55 +2,64 @@
 // of it is left out. For the benchmark alone. tools/bench/bench.rs folds the Rust's results by the same rules.
 #![tactic(auto)]
 
-use erase_plan::{EraseEntry, EraseType, EraseTypes, Next};
+use erase_plan::{EraseEntry, EraseType, EraseTypes, NextEntry};
 use sfdp::{
-    FlashParams, ReadParams, SFDPAddressBytes, SFDPEraseInst, SFDPEraseInsts, SFDPRawTimes,
-    SFDPStatus1Volatility, SFDPTiming,
+    FlashParams, SFDPEraseInst, SFDPEraseInsts, SFDPRawTimes, SFDPStatus1Volatility, SFDPTiming,
 };
-
-fn sum(a: u64, b: u64) -> u64 {
-    std::num::wrapping_add_u64(a, b)
-}
 
 // first + 3 * later. A struct's fields are a chain of these, so their weights are the powers of 3. The chains are
 // multiplied by 2, 4, 5, 7, 8 and products of these: no two fields have the same weight, so that no two can be swapped.
-fn then(first: u64, later: u64) -> u64 {
-    sum(first, sum(later, twice(later)))
+// The chains are nested calls and no folds of arrays: both sides fold so, and the time is to be that of the reading.
+pub fn then(first: u64, later: u64) -> u64 {
+    first.wrapping_add(later.wrapping_mul(3))
 }
 
-fn twice(x: u64) -> u64 {
-    sum(x, x)
+// ---- the fields that the Rust has too
+
+fn fold_inst(i: SFDPEraseInst) -> u64 {
+    let times = then(i.timed as u64, then(i.time_typ as u64, i.time_max));
+    then(i.opcode as u64, then(i.size as u64, times))
 }
 
-fn five_times(x: u64) -> u64 {
-    sum(x, twice(twice(x)))
+fn fold_insts(s: SFDPEraseInsts) -> u64 {
+    fold_inst(s.inst1)
+        .wrapping_add(fold_inst(s.inst2).wrapping_mul(2))
+        .wrapping_add(fold_inst(s.inst3).wrapping_mul(4))
+        .wrapping_add(fold_inst(s.inst4).wrapping_mul(8))
 }
 
-fn seven_times(x: u64) -> u64 {
-    sum(x, twice(sum(x, twice(x))))
+fn fold_times(t: SFDPTiming) -> u64 {
+    let page = then(t.page_prog_time_typ as u64, t.page_prog_time_max);
+    let succ = then(
+        t.succ_byte_prog_time_typ as u64,
+        then(t.succ_byte_prog_time_max, page),
+    );
+    let first = then(
+        t.first_byte_prog_time_typ as u64,
+        then(t.first_byte_prog_time_max, succ),
+    );
+    then(
+        t.chip_erase_time_typ as u64,
+        then(t.chip_erase_time_max, first),
+    )
 }
 
-fn byte(x: u8) -> u64 {
-    x as u64
+fn fold_legacy(p: FlashParams) -> u64 {
+    let granularity = then(p.legacy_byte_write_granularity as u64, p.density);
+    let protect = then(p.legacy_block_protect_volatile as u64, granularity);
+    let flags = then(p.legacy_4kb_erase_supported as u64, protect);
+    let insts = then(p.legacy_volatile_write_en_inst as u64, flags);
+    let addressed = then(
+        p.address_bytes as u64,
+        then(p.legacy_4kb_erase_inst as u64, insts),
+    );
+    then(
+        p.version_major as u64,
+        then(p.version_minor as u64, addressed),
+    )
 }
 
-fn word(x: u32) -> u64 {
-    x as u64
-}
-
-fn flag(b: bool) -> u64 {
-    if b { 1 } else { 0 }
-}
-
-fn address_code(a: SFDPAddressBytes) -> u64 {
-    match a {
-        SFDPAddressBytes::Three => 0,
-        SFDPAddressBytes::ThreeOrFour => 1,
-        SFDPAddressBytes::Four => 2,
-        SFDPAddressBytes::Reserved => 3,
-    }
-}
-
+// The number that tools/bench/bench.rs has for it, which is not the one of dword 16.
 fn volatility_code(v: SFDPStatus1Volatility) -> u64 {
     match v {
         SFDPStatus1Volatility::NonVolatile06 => 0,
@@ -62,89 +71,54 @@ fn volatility_code(v: SFDPStatus1Volatility) -> u64 {
     }
 }
 
-// ---- the fields that the Rust has too
-
-fn fold_inst(i: SFDPEraseInst) -> u64 {
-    let times = then(flag(i.timed), then(word(i.time_typ), i.time_max));
-    then(byte(i.opcode), then(word(i.size), times))
-}
-
-fn fold_insts(s: SFDPEraseInsts) -> u64 {
-    let back = sum(fold_inst(s.inst3), twice(fold_inst(s.inst4)));
-    sum(
-        fold_inst(s.inst1),
-        twice(sum(fold_inst(s.inst2), twice(back))),
-    )
-}
-
-fn fold_times(t: SFDPTiming) -> u64 {
-    let page = then(word(t.page_prog_time_typ), t.page_prog_time_max);
-    let succ = then(
-        word(t.succ_byte_prog_time_typ),
-        then(t.succ_byte_prog_time_max, page),
-    );
-    let first = then(
-        word(t.first_byte_prog_time_typ),
-        then(t.first_byte_prog_time_max, succ),
-    );
-    then(
-        word(t.chip_erase_time_typ),
-        then(t.chip_erase_time_max, first),
-    )
-}
-
-fn fold_legacy(p: FlashParams) -> u64 {
-    let granularity = then(flag(p.legacy_byte_write_granularity), p.density);
-    let protect = then(flag(p.legacy_block_protect_volatile), granularity);
-    let flags = then(flag(p.legacy_4kb_erase_supported), protect);
-    let insts = then(byte(p.legacy_volatile_write_en_inst), flags);
-    let a = p.address_bytes;
-    let addressed = then(address_code(a), then(byte(p.legacy_4kb_erase_inst), insts));
-    then(
-        byte(p.version_major),
-        then(byte(p.version_minor), addressed),
-    )
-}
-
 fn fold_later(p: FlashParams) -> u64 {
-    let v = p.status_1_vol;
     let codes = then(
-        volatility_code(v),
-        then(flag(p.jesd216a), word(p.page_size)),
+        volatility_code(p.status_1_vol),
+        then(p.jesd216a as u64, p.page_size as u64),
     );
-    let resets = then(flag(p.reset_inst_f0), then(flag(p.reset_inst_66_99), codes));
+    let resets = then(
+        p.reset_inst_f0 as u64,
+        then(p.reset_inst_66_99 as u64, codes),
+    );
     then(
-        flag(p.busy_poll_flag),
-        then(flag(p.busy_poll_status), resets),
+        p.busy_poll_flag as u64,
+        then(p.busy_poll_status as u64, resets),
     )
 }
 
 fn fold_shared(p: FlashParams) -> u64 {
-    let insts = five_times(fold_insts(p.erase_insts));
-    let back = seven_times(sum(fold_times(p.timing), five_times(fold_later(p))));
-    sum(sum(fold_legacy(p), insts), back)
+    fold_legacy(p)
+        .wrapping_add(fold_insts(p.erase_insts).wrapping_mul(5))
+        .wrapping_add(fold_times(p.timing).wrapping_mul(7))
+        .wrapping_add(fold_later(p).wrapping_mul(35))
 }
 
 // ---- the fields that only ours has
 
 fn fold_raw(r: SFDPRawTimes) -> u64 {
-    let page = then(byte(r.chip_erase), byte(r.page_prog));
-    let bytes = then(byte(r.first_byte_prog), then(byte(r.succ_byte_prog), page));
+    let page = then(r.chip_erase as u64, r.page_prog as u64);
+    let bytes = then(
+        r.first_byte_prog as u64,
+        then(r.succ_byte_prog as u64, page),
+    );
     then(
-        byte(r.erase_multiplier),
-        then(byte(r.prog_multiplier), bytes),
+        r.erase_multiplier as u64,
+        then(r.prog_multiplier as u64, bytes),
     )
 }
 
 fn fold_own(p: FlashParams) -> u64 {
     let s = p.erase_insts;
     let modes = then(
-        flag(p.exit_4byte_e9),
-        then(flag(p.enter_4byte_b7), fold_raw(p.raw)),
+        p.exit_4byte_e9 as u64,
+        then(p.enter_4byte_b7 as u64, fold_raw(p.raw)),
     );
-    let back = then(byte(s.inst3.time_raw), then(byte(s.inst4.time_raw), modes));
-    let front = then(byte(s.inst1.time_raw), then(byte(s.inst2.time_raw), back));
-    twice(seven_times(front))
+    let back = then(
+        s.inst3.time_raw as u64,
+        then(s.inst4.time_raw as u64, modes),
+    );
+    let front = then(s.inst1.time_raw as u64, then(s.inst2.time_raw as u64, back));
+    front.wrapping_mul(14)
 }
 
 // ---- the benchmarks
@@ -152,16 +126,16 @@ fn fold_own(p: FlashParams) -> u64 {
 // A table read, and the fields that the Rust has too.
 pub fn mg_bench_sfdp_shared(minor: u8, plen: u8, data: &[u8]) -> u64 {
     match FlashParams::from_bytes(minor, plen, data) {
-        ReadParams::Params(p) => fold_shared(p),
-        ReadParams::InvalidSFDPParams => 4,
+        Ok(p) => fold_shared(p),
+        Err(_) => 4,
     }
 }
 
 // A table read, and all its fields: more than the Rust reads.
 pub fn mg_bench_sfdp(minor: u8, plen: u8, data: &[u8]) -> u64 {
     match FlashParams::from_bytes(minor, plen, data) {
-        ReadParams::Params(p) => sum(fold_shared(p), fold_own(p)),
-        ReadParams::InvalidSFDPParams => 4,
+        Ok(p) => fold_shared(p).wrapping_add(fold_own(p)),
+        Err(_) => 4,
     }
 }
 
@@ -169,63 +143,39 @@ pub fn mg_bench_sfdp(minor: u8, plen: u8, data: &[u8]) -> u64 {
 
 fn type_of(size: u32, opcode: u8) -> EraseType {
     EraseType {
-        size: size,
-        opcode: opcode,
-        timed: false,
-        time: 0,
+        size,
+        opcode,
+        time: None,
     }
 }
 
 fn fold_entry(e: EraseEntry) -> u64 {
     then(
-        byte(e.opcode),
-        then(word(e.size), then(word(e.base), word(e.time))),
+        e.opcode as u64,
+        then(e.size as u64, then(e.base as u64, e.time as u64)),
     )
 }
 
-// A walk along a plan: whether it goes on, from where, whether that is known to be a multiple of every size, and the entries so far, folded.
-#[derive(Clone, Copy)]
-pub struct Walk {
-    pub going: bool,
-    pub at: u32,
-    pub later: bool,
-    pub folded: u64,
-}
-
-fn turn(ts: EraseTypes, last: u32, w: Walk) -> Walk {
-    match erase_plan::entry_at(ts, w.later, w.at, last) {
-        Next::Nothing => Walk {
-            going: false,
-            at: w.at,
-            later: false,
-            folded: w.folded,
-        },
-        Next::Entry { entry, stop } => Walk {
-            going: stop != last,
-            at: std::num::wrapping_add_u32(stop, 1),
-            later: erase_plan::later_next(ts, w.later),
-            folded: sum(w.folded, fold_entry(entry)),
-        },
-    }
-}
-
-fn walked(ts: EraseTypes, at: u32, last: u32) -> u64 {
-    let mut w = Walk {
-        going: true,
-        at: at,
-        later: false,
-        folded: 0,
-    };
-    let mut turns: u64 = 0x1_0000_0000;
-    while turns > 0 {
-        if w.going {
-            w = turn(ts, last, w);
-            turns -= 1;
-        } else {
-            turns = 0;
+// A plan's entries, folded. later: whether the position is known to be a multiple of every size. Each entry takes an address at least, so
+// 2^32 of them pass every last address.
+fn walked(ts: EraseTypes, from: u32, last: u32) -> u64 {
+    let mut at = from;
+    let mut later = false;
+    let mut folded: u64 = 0;
+    for _ in 0..0x1_0000_0000u64 {
+        match erase_plan::entry_at(ts, later, at, last) {
+            None => break,
+            Some(NextEntry { entry, stop }) => {
+                folded = folded.wrapping_add(fold_entry(entry));
+                if stop == last {
+                    break;
+                }
+                at = stop.wrapping_add(1);
+                later = erase_plan::later_next(ts, later);
+            }
         }
     }
-    w.folded
+    folded
 }
 
 // A plan from address 0 to a last address with three types, entry by entry.

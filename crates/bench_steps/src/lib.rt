@@ -1,70 +1,35 @@
 // What tools/bench calls: a command run step by step, with all that was sent folded into one number. For the benchmark alone.
 #![tactic(auto)]
 
+use bench::then;
 use flash::{Event, Session, Stepped};
 use phases::Transaction;
-
-fn sum(a: u64, b: u64) -> u64 {
-    std::num::wrapping_add_u64(a, b)
-}
-
-fn twice(x: u64) -> u64 {
-    sum(x, x)
-}
-
-// first + 3 * later, as in crates/bench.
-fn then(first: u64, later: u64) -> u64 {
-    sum(first, sum(later, twice(later)))
-}
-
-fn byte(x: u8) -> u64 {
-    x as u64
-}
-
-fn word(x: u32) -> u64 {
-    x as u64
-}
-
-// ---- a command, step by step
 
 // What is sent, folded: the transaction, and the first and last byte of its payload.
 fn fold_sent(t: Transaction, work: &[u8]) -> u64 {
     let part = room::payload(work, t.from, t.len);
-    let n = part.len();
-    let ends = if n == 0 {
-        0
-    } else {
-        sum(byte(part[0]), twice(byte(part[n - 1])))
+    let ends = match (part.first(), part.last()) {
+        (Some(first), Some(last)) => *first as u64 + 2 * *last as u64,
+        _ => 0,
     };
-    then(
-        byte(t.opcode),
-        then(word(t.address), then(t.reply, sum(t.len, ends))),
-    )
+    let tail = then(t.reply, t.len.wrapping_add(ends));
+    then(t.opcode as u64, then(t.address as u64, tail))
 }
 
-// Where a reply starts in the bytes of the part: a poll is answered by the first, a read by those after it.
-fn first(poll: bool) -> u32 {
-    if poll { 0 } else { 1 }
-}
-
-// The host: it sends what the events say, and gives back the reply of an erased part that is always ready.
+// The host: it sends what the events say, and gives back the reply of an erased part that is always ready. A poll is answered by
+// the first byte of the part, a read by those after it. A proved loop has to end, and no clause says when a command does: 100,000 steps
+// are many more than any write of tools/bench takes, of 4,096 bytes at most.
 fn run(x: Stepped, part: &[u8], work: &mut [u8]) -> u64 {
     let mut now = x;
     let mut folded: u64 = 0;
-    let mut turns: u64 = 100_000;
-    while turns > 0 {
-        let e = now.event;
-        let s = now.session;
-        match e {
-            Event::Answered(_, polls) => {
-                folded = sum(folded, polls);
-                turns = 0;
-            }
+    for _ in 0..100_000 {
+        match now.event {
+            Event::Answered(_, polls) => return folded.wrapping_add(polls),
             Event::Send(t) => {
-                folded = sum(folded, fold_sent(t, work));
-                turns -= 1;
-                let reply = room::payload(part, first(t.poll), t.reply);
-                now = s.step(false, reply, work);
+                folded = folded.wrapping_add(fold_sent(t, work));
+                let from = if t.poll { 0 } else { 1 };
+                let reply = room::payload(part, from, t.reply);
+                now = now.session.step(false, reply, work);
             }
         }
     }
@@ -75,8 +40,7 @@ fn run(x: Stepped, part: &[u8], work: &mut [u8]) -> u64 {
 pub fn mg_bench_program(address: u32, data: &[u8], work: &mut [u8]) -> u64 {
     let sized = Session::new().set_erase_size(4096).session;
     let s = sized.set_capacity(65_536).session;
-    let x = s.program(address, data, false, work);
     let mut part = [0xFFu8; 4097];
     part[0] = 0;
-    run(x, &part, work)
+    run(s.program(address, data, false, work), &part, work)
 }

@@ -1,4 +1,5 @@
 -- Each command by cases: it is refused at the start, or its checks hold and it goes on.
+use Rattle.std.proofs.Common.{Result, Ok, Err}
 use mathlib.Core.Path.{◌≡◌, refl, subst}
 use mathlib.Core.Bool.{Bool, true, false, ◌&&◌}
 use mathlib.Core.Logic.{⊎_elim}
@@ -11,8 +12,6 @@ use borrow.Author.Tests.{leb-true}
 use Rattle.settings.specs.declared.Settings.{Settings}
 use Rattle.settings.specs.Ranges.{reach, capacity_allows, accepted_range, last_address}
 use Rattle.erase_plan.specs.declared.EraseType.{EraseType}
-use Rattle.erase_plan.specs.declared.SpanCheck.{SpanCheck}
-use Rattle.erase_plan.specs.declared.SpanCheck.TheVariants as Span
 use Rattle.erase_plan.specs.Plan.{cover, chosen, entry_at, next_pos, plan}
 use Rattle.erase_plan.specs.Span.{end_of, span_start, span_end, span_check}
 use Rattle.erase_plan.specs.Good.{Each, Present}
@@ -76,10 +75,10 @@ module _ {B : Type 0} (P : Script B → Type 0) (w : Kept) (k : Unit {0} → Cmd
       go [] e = p
       go (t ∷ ts) e = q t ts e
 
-  span_case : (s : SpanCheck) → ((a : ℕ) → P (stop w (bad_range a))) → P (k tt w) → P (after (span_fits s w) k)
+  span_case : (s : Result (Unit {0}) ℕ) → ((a : ℕ) → P (stop w (bad_range a))) → P (k tt w) → P (after (span_fits s w) k)
   unfolding after
-  span_case Span.Fits p q = q
-  span_case (Span.Bad a) p q = p a
+  span_case (Ok _) p q = q
+  span_case (Err a) p q = p a
 
 -- an accepted range has a byte
 pub accepted_some : (s : Settings) (a n : ℕ) → accepted_range s a n ≡ true → 1 ≤ n

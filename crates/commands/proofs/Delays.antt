@@ -1,4 +1,5 @@
 -- A worked run with parameters, written out from docs/SCOPE.md: read_params, then a program with delays, polled by flag status.
+use Rattle.std.proofs.Common.{Some}
 use mathlib.Core.Path.{◌≡◌, refl}
 use mathlib.Core.Bool.{true, false}
 use mathlib.Core.List.{List, [], ◌∷◌, ◌++◌}
@@ -70,8 +71,7 @@ asked =
 abbrev pub settings : Settings
 settings = record {
   address_bytes = 3;
-  capacity_set = true;
-  capacity = 1024;
+  capacity = Some 1024;
   page_size = 32;
   erase_size = 16;
   erase_opcode = 0x20;

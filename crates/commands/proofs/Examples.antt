@@ -1,4 +1,5 @@
 -- Worked runs, computed by the definitions. The first is that of docs/SCOPE.md.
+use Rattle.std.proofs.Common.{Some}
 use mathlib.Core.Path.{◌≡◌, refl}
 use mathlib.Core.Bool.{true, false}
 use mathlib.Core.List.{List, [], ◌∷◌}
@@ -27,8 +28,7 @@ use Rattle.commands.specs.Wire.{high_first, wire}
 abbrev pub settings : Settings
 settings = record {
   address_bytes = 3;
-  capacity_set = true;
-  capacity = 1024;
+  capacity = Some 1024;
   page_size = 256;
   erase_size = 256;
   erase_opcode = 0x20;

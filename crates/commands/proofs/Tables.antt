@@ -1,4 +1,5 @@
 -- What read_params leaves.
+use Rattle.std.proofs.Common.{Result, Ok, Err}
 use mathlib.Core.Path.{◌≡◌, refl, ap, subst}
 use mathlib.Core.Bool.{Bool, true, false, cond}
 use mathlib.Core.Logic.{⊎_elim}
@@ -7,18 +8,18 @@ use mathlib.Core.Option.{some}
 use Prim.Native.Nat.{ℕ, zero, suc, ◌+◌, ◌*◌, ◌≤◌, ◌<◌}
 use native.Mathlib.Omega.{arith}
 use lib.ListN.{length}
+use Rattle.sfdp.specs.declared.FlashParams.{FlashParams}
+use Rattle.sfdp.specs.declared.SFDPError.{SFDPError}
+use Rattle.sfdp.specs.declared.SFDPError.TheVariants as Refusal
 use Rattle.dwords.specs.Dwords.{byte_at}
 use Rattle.sfdp.specs.Jesd216.{headers, signed, basic, parameter_header, read_header, read_table}
 use Rattle.sfdp.specs.declared.SFDPParameterHeader.{SFDPParameterHeader}
-use Rattle.sfdp.specs.declared.ReadHeader.{ReadHeader}
-use Rattle.sfdp.specs.declared.ReadHeader.TheVariants as OfHeader
-use Rattle.sfdp.specs.declared.ReadParams.{ReadParams}
-use Rattle.sfdp.specs.declared.ReadParams.TheVariants as OfTable
 use Rattle.settings.specs.Updated.{updated}
 use Rattle.erase_plan.specs.Good.{Each}
 use Rattle.commands.specs.declared.Answer.{Answer}
-use Rattle.commands.specs.declared.Answer.TheVariants.{Done, Access, NoSFDP, InvalidSFDPHeader, InvalidSFDPParams}
-use Rattle.commands.specs.Script.{Kept, send, after, ◌>>=◌, ◌>>◌, roomed, over}
+use Rattle.commands.specs.Answers.{refusal_of}
+use Rattle.commands.specs.declared.Answer.TheVariants.{Done, Access}
+use Rattle.commands.specs.Script.{Kept, send, after, ◌>>=◌, roomed, over}
 use Rattle.commands.specs.Host.{Reply, got, Outcome, tree, play}
 use Rattle.commands.specs.Transactions.{read_sfdp}
 use Rattle.commands.specs.Commands.{fetch_sfdp, with_table, with_header}
@@ -36,16 +37,23 @@ byte_below (x ∷ l) zero h = h.0
 byte_below (x ∷ l) (suc i) h = byte_below l i h.1
 
 -- the header that is found has a count of dwords that is a byte of the reply
-header_count : (l : List ℕ) (h : SFDPParameterHeader) → read_header l ≡ OfHeader.Header h → h.plen ≡ byte_at l (8 + 3)
+header_count : (l : List ℕ) (h : SFDPParameterHeader) → read_header l ≡ Ok h → h.plen ≡ byte_at l (8 + 3)
 unfolding read_header parameter_header
 header_count l h e = go (signed l) (basic (parameter_header l 8)) e
   where
-    go : (a b : Bool) → ◌≡◌ {A = ReadHeader} (cond a (cond b (OfHeader.Header (parameter_header l 8)) OfHeader.InvalidSFDPHeader) OfHeader.NoSFDP) (OfHeader.Header h)
+    go : (a b : Bool) → ◌≡◌ {A = Result SFDPParameterHeader SFDPError} (cond a (cond b (Ok (parameter_header l 8)) (Err Refusal.InvalidSFDPHeader)) (Err Refusal.NoSFDP)) (Ok h)
         → h.plen ≡ byte_at l (8 + 3)
     go true true e = let q : h ≡ parameter_header l 8 = cc in ap (λ (x : SFDPParameterHeader). x.plen) q
     go true false e = let z : ◌≡◌ {A = ℕ} 0 1 = cc in absurd (omega arith)
     go false true e = let z : ◌≡◌ {A = ℕ} 0 1 = cc in absurd (omega arith)
     go false false e = let z : ◌≡◌ {A = ℕ} 0 1 = cc in absurd (omega arith)
+
+-- an area that is refused ends the command, which was not refused
+reported : (x : SFDPError) → refused (refusal_of x) ≡ false
+unfolding refused
+reported Refusal.NoSFDP = refl
+reported Refusal.InvalidSFDPHeader = refl
+reported Refusal.InvalidSFDPParams = refl
 
 -- ---- what is left: no refusal; settings and parameters as they were unless Done; and, where B holds, the room beyond 2,056 bytes
 pub record Learnt (B : Type 0) (w : Kept) (o : Outcome) : Type 0 where
@@ -67,13 +75,13 @@ module _ (B : Type 0) (w : Kept) (long : 2056 ≤ length w.room) where
   more : (r l : List ℕ) → (B → length r ≤ 2056) → (B → Beyond 2056 w.room l) → B → Beyond 2056 w.room (over 0 r l)
   more r l s b h = beyond_more 2056 0 r w.room l (omega (arith, s h)) long (b h)
 
-  table_case : (p : ReadParams) (l : List ℕ) → (B → Beyond 2056 w.room l) → (m : ℕ) (rs : List Reply) (o : Outcome)
+  table_case : (p : Result FlashParams SFDPError) (l : List ℕ) → (B → Beyond 2056 w.room l) → (m : ℕ) (rs : List Reply) (o : Outcome)
       → (play (tree m (with_table p (roomed w l))) rs).1 ≡ some o → Learnt B w o
   unfolding after refused
-  table_case OfTable.InvalidSFDPParams l b m rs o e =
-      let q = at_stop (roomed w l) InvalidSFDPParams m rs o e in
-      ending l o InvalidSFDPParams refl b q.0 q.1
-  table_case (OfTable.Params p) l b m rs o e =
+  table_case (Err x) l b m rs o e =
+      let q = at_stop (roomed w l) (refusal_of x) m rs o e in
+      ending l o (refusal_of x) (reported x) b q.0 q.1
+  table_case (Ok p) l b m rs o e =
       let q = at_done (record { settings = updated w.settings p; known = true; params = p; room = l }) Done m rs o e in
       record {
         answer = rw q.1;
@@ -81,16 +89,13 @@ module _ (B : Type 0) (w : Kept) (long : 2056 ≤ length w.room) where
         beyond = λ h. along (λ (x : Kept). Beyond 2056 w.room x.room) q.0 (b h);
       }
 
-  header_case : (p : ReadHeader) (l : List ℕ) → ((h : SFDPParameterHeader) → p ≡ OfHeader.Header h → B → h.plen < 256) → (B → Beyond 2056 w.room l)
+  header_case : (p : Result SFDPParameterHeader SFDPError) (l : List ℕ) → ((h : SFDPParameterHeader) → p ≡ Ok h → B → h.plen < 256) → (B → Beyond 2056 w.room l)
       → (m : ℕ) (rs : List Reply) (o : Outcome) → (play (tree m (with_header p (roomed w l))) rs).1 ≡ some o → Learnt B w o
   unfolding after refused
-  header_case OfHeader.NoSFDP l c b m rs o e =
-      let q = at_stop (roomed w l) NoSFDP m rs o e in
-      ending l o NoSFDP refl b q.0 q.1
-  header_case OfHeader.InvalidSFDPHeader l c b m rs o e =
-      let q = at_stop (roomed w l) InvalidSFDPHeader m rs o e in
-      ending l o InvalidSFDPHeader refl b q.0 q.1
-  header_case (OfHeader.Header h) l c b m rs o e =
+  header_case (Err x) l c b m rs o e =
+      let q = at_stop (roomed w l) (refusal_of x) m rs o e in
+      ending l o (refusal_of x) (reported x) b q.0 q.1
+  header_case (Ok h) l c b m rs o e =
       ⊎_elim (λ f. ending l o Access refl b f.0 f.1)
       (λ g. table_case (read_table h.minor h.plen g.bytes) (over 0 g.bytes l) (more g.bytes l (λ x. omega (arith, g.sized, c h refl x)) b) g.behind g.rest o g.goes)
       (one_sent (roomed w l) (read_sfdp h.ptp (4 * h.plen)) (λ r. with_table (read_table h.minor h.plen r) (roomed w (over 0 r l))) m rs o e)

@@ -1,4 +1,5 @@
 -- The bounds of docs/SCOPE.md.
+use Rattle.std.proofs.Common.{Result, Ok, Err}
 use mathlib.Core.Path.{◌≡◌, refl, sym, ap}
 use mathlib.Core.Bool.{Bool, true, false, cond, ◌&&◌, ◌||◌, not}
 use mathlib.Core.Logic.{⊎_elim}
@@ -9,12 +10,11 @@ use native.Mathlib.Omega.{arith}
 use native.Mathlib.Nat.{mul-le-mul_right}
 use lib.Dec.{eqb, ltb}
 use lib.ListN.{length, take, drop}
+use Rattle.sfdp.specs.declared.FlashParams.{FlashParams}
+use Rattle.sfdp.specs.declared.SFDPParameterHeader.{SFDPParameterHeader}
+use Rattle.sfdp.specs.declared.SFDPError.{SFDPError}
 use Rattle.dwords.specs.Dwords.{byte_at}
 use Rattle.sfdp.specs.Jesd216.{read_header, read_table}
-use Rattle.sfdp.specs.declared.ReadHeader.{ReadHeader}
-use Rattle.sfdp.specs.declared.ReadHeader.TheVariants as OfHeader
-use Rattle.sfdp.specs.declared.ReadParams.{ReadParams as TableRead}
-use Rattle.sfdp.specs.declared.ReadParams.TheVariants as OfTable
 use borrow.Author.Tests.{ltb-true, ltb-false}
 use Rattle.settings.specs.Limits.{page_of}
 use Rattle.erase_plan.specs.declared.EraseEntry.{EraseEntry}
@@ -191,16 +191,15 @@ bounded_program a d v w rs =
     (λ p. before_within J d w rs)
 
 -- ---- the other commands
-within_table : (n : ℕ) (p : TableRead) (w : Kept) → Within n (with_table p w)
+within_table : (n : ℕ) (p : Result FlashParams SFDPError) (w : Kept) → Within n (with_table p w)
 unfolding after
-within_table n OfTable.InvalidSFDPParams w = tt
-within_table n (OfTable.Params p) w = tt
+within_table n (Err e) w = tt
+within_table n (Ok p) w = tt
 
-within_header : (p : ReadHeader) (w : Kept) → Within 1 (with_header p w)
+within_header : (p : Result SFDPParameterHeader SFDPError) (w : Kept) → Within 1 (with_header p w)
 unfolding after
-within_header OfHeader.NoSFDP w = tt
-within_header OfHeader.InvalidSFDPHeader w = tt
-within_header (OfHeader.Header h) w = (tt, (omega arith, λ r. within_table 0 (read_table h.minor h.plen r) _))
+within_header (Err e) w = tt
+within_header (Ok h) w = (tt, (omega arith, λ r. within_table 0 (read_table h.minor h.plen r) _))
 
 within_params : (w : Kept) → Within 3 (read_params w)
 unfolding after

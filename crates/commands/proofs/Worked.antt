@@ -1,8 +1,7 @@
 -- A worked run of each further command, computed by the definitions: what is sent, the answer, the polls, the room.
 use mathlib.Core.Path.{◌≡◌, refl}
 use mathlib.Core.Bool.{true, false}
-use mathlib.Core.List.{List, [], ◌∷◌, ◌++◌}
-use Prim.Native.Nat.{ℕ}
+use mathlib.Core.List.{[], ◌∷◌, ◌++◌}
 use lib.ListN.{replicate}
 use Rattle.dwords.specs.Dwords.{byte_at}
 use Rattle.sfdp.specs.declared.FlashParams.{FlashParams}
@@ -13,10 +12,9 @@ use Rattle.erase_plan.specs.Types.{kept, present}
 use Rattle.erase_plan.specs.Plan.{block_base, block_end, cover, beats, chosen_from, chosen, entry_at, next_pos, plan_in, plan}
 use Rattle.erase_plan.specs.Span.{span_start, span_end, span_check}
 use Rattle.plans.specs.Available.{of_settings, available}
-use Rattle.commands.specs.declared.Answer.{Answer}
 use Rattle.commands.specs.declared.Answer.TheVariants.{Done, DoneBool, DoneId, InvalidManufacturer, NoResetInstruction, NoRoom, NoSFDP}
-use Rattle.commands.specs.Script.{Sent, Kept, after, roomed, over, each}
-use Rattle.commands.specs.Host.{Reply, got, full, tally, tree, play, polls_in}
+use Rattle.commands.specs.Script.{Kept, after, roomed, over, each}
+use Rattle.commands.specs.Host.{got, full, tally, tree, play, polls_in}
 use Rattle.commands.specs.Transactions.{plain, at, fast_read, read_data, read_sfdp, page_delay, by_flag, ready, polls, to_page_end, parts_in, parts}
 use Rattle.commands.specs.Commands.{bad_range, read, legacy_read, read_params, erase, erase_sectors, program_data, reset, read_jedec_id, first_id, is_busy, is_protected}
 use Rattle.commands.proofs.Examples.{settings, started, poll1, part, Ran, outcome}

@@ -1,28 +1,26 @@
 -- Each command of docs/SCOPE.md, Commands as transactions: what it checks, in order, what it sends, and how it ends.
-use Rattle.std.specs.Prelude.{Bool, true, false, cond, ◌&&◌, ◌||◌, not, List, [], ◌∷◌, ◌++◌, ℕ, zero, suc, ◌+◌, ◌-◌, ◌*◌, ◌/◌, ◌%◌, ◌^◌, eqb, ltb, leb, length, take, drop}
+use Rattle.std.specs.Prelude.{Bool, true, false, cond, ◌&&◌, ◌||◌, not, List, [], ◌∷◌, ℕ, zero, suc, ◌+◌, ◌-◌, ◌*◌, eqb, ltb, leb, length, take, drop, Result, Ok, Err}
 use Rattle.std.proofs.Math.Option.{Option, some, none}
+use Rattle.sfdp.specs.declared.FlashParams.{FlashParams}
+use Rattle.sfdp.specs.declared.SFDPParameterHeader.{SFDPParameterHeader}
+use Rattle.sfdp.specs.declared.SFDPError.{SFDPError}
 use Rattle.dwords.specs.Dwords.{byte_at, bits}
 use Rattle.sfdp.specs.Jesd216.{headers, read_header, read_table}
-use Rattle.sfdp.specs.declared.ReadHeader.{ReadHeader}
-use Rattle.sfdp.specs.declared.ReadHeader.TheVariants as OfHeader
-use Rattle.sfdp.specs.declared.ReadParams.{ReadParams}
-use Rattle.sfdp.specs.declared.ReadParams.TheVariants as OfTable
 use Rattle.settings.specs.declared.Settings.{Settings}
 use Rattle.settings.specs.Limits.{page_of}
 use Rattle.settings.specs.Ranges.{accepted_range, last_address}
 use Rattle.settings.specs.Updated.{updated}
 use Rattle.erase_plan.specs.declared.EraseType.{EraseType}
 use Rattle.erase_plan.specs.declared.EraseEntry.{EraseEntry}
-use Rattle.erase_plan.specs.declared.SpanCheck.{SpanCheck}
-use Rattle.erase_plan.specs.declared.SpanCheck.TheVariants as Span
 use Rattle.erase_plan.specs.Types.{present}
 use Rattle.erase_plan.specs.Plan.{plan}
 use Rattle.erase_plan.specs.Span.{span_start, span_end, span_check}
 use Rattle.plans.specs.Available.{available}
 use Rattle.commands.specs.declared.Answer.{Answer}
-use Rattle.commands.specs.declared.Answer.TheVariants.{Done, DoneBool, DoneId, ReadbackError, InvalidManufacturer, InvalidSFDPHeader, InvalidSFDPParams, InvalidAddress, NoResetInstruction, NoEraseInstruction, NoRoom, NoSFDP}
-use Rattle.commands.specs.Script.{Sent, Kept, Script, done, stop, send, Cmd, after, ◌>>=◌, ◌>>◌, give, fail, need, when, ask, kept, store, adopt, each}
-use Rattle.commands.specs.Transactions.{plain, fast_read, read_data, read_sfdp, status1, erase_block, by_flag, status_poll, ready, operation, Part, parts, bytes_of, write_part}
+use Rattle.commands.specs.Answers.{refusal_of}
+use Rattle.commands.specs.declared.Answer.TheVariants.{Done, DoneBool, DoneId, ReadbackError, InvalidManufacturer, InvalidAddress, NoResetInstruction, NoEraseInstruction, NoRoom}
+use Rattle.commands.specs.Script.{Sent, Kept, done, stop, Cmd, ◌>>=◌, ◌>>◌, give, fail, need, when, ask, kept, store, adopt, each}
+use Rattle.commands.specs.Transactions.{plain, fast_read, read_data, read_sfdp, status1, erase_block, by_flag, status_poll, ready, operation, parts, write_part}
 
 -- ---- the checks
 -- answer 5 with the last address of a range
@@ -72,14 +70,13 @@ legacy_read a n = read_by read_data a n
 abbrev pub fetch_sfdp : ℕ → ℕ → Cmd (List ℕ)
 fetch_sfdp a n = ask (read_sfdp a n) >>= λ r. store 0 r >> give r
 
-abbrev pub with_table : ReadParams → Cmd Answer
-with_table OfTable.InvalidSFDPParams w = stop w InvalidSFDPParams
-with_table (OfTable.Params p) w = (adopt (updated w.settings p) p >> give Done) w
+abbrev pub with_table : Result FlashParams SFDPError → Cmd Answer
+with_table (Err e) w = stop w (refusal_of e)
+with_table (Ok p) w = (adopt (updated w.settings p) p >> give Done) w
 
-abbrev pub with_header : ReadHeader → Cmd Answer
-with_header OfHeader.NoSFDP w = stop w NoSFDP
-with_header OfHeader.InvalidSFDPHeader w = stop w InvalidSFDPHeader
-with_header (OfHeader.Header h) w = (fetch_sfdp h.ptp (4 * h.plen) >>= λ r. with_table (read_table h.minor h.plen r)) w
+abbrev pub with_header : Result SFDPParameterHeader SFDPError → Cmd Answer
+with_header (Err e) w = stop w (refusal_of e)
+with_header (Ok h) w = (fetch_sfdp h.ptp (4 * h.plen) >>= λ r. with_table (read_table h.minor h.plen r)) w
 
 unfoldable pub read_params : Cmd Answer
 read_params = do
@@ -93,9 +90,9 @@ unfoldable pub erase : Cmd Answer
 erase = operation (plain 0xC7 0) >> give Done
 
 -- ---- erase_sectors: 5, 7, 5 for the span; then the plan
-abbrev pub span_fits : SpanCheck → Cmd (Unit {0})
-span_fits Span.Fits w = done w tt
-span_fits (Span.Bad a) w = stop w (bad_range a)
+abbrev pub span_fits : Result (Unit {0}) ℕ → Cmd (Unit {0})
+span_fits (Ok _) w = done w tt
+span_fits (Err a) w = stop w (bad_range a)
 
 unfoldable pub erase_sectors : ℕ → ℕ → Cmd Answer
 erase_sectors a n = do

@@ -1,11 +1,10 @@
 -- The transactions of docs/SCOPE.md, Commands as transactions, and the polls.
-use Rattle.std.specs.Prelude.{Bool, true, false, cond, ◌&&◌, not, List, [], ◌∷◌, ◌++◌, ℕ, zero, suc, ◌+◌, ◌-◌, ◌*◌, ◌/◌, ◌%◌, ◌^◌, min, eqb, ltb, take, drop}
+use Rattle.std.specs.Prelude.{Bool, true, false, cond, ◌&&◌, not, List, [], ◌∷◌, ℕ, zero, suc, ◌+◌, ◌-◌, ◌/◌, ◌%◌, min, eqb, ltb, take, drop}
 use Rattle.dwords.specs.Dwords.{byte_at, bit}
 use Rattle.settings.specs.declared.Settings.{Settings}
-use Rattle.settings.specs.Limits.{page_of}
 use Rattle.erase_plan.specs.declared.EraseEntry.{EraseEntry}
 use Rattle.commands.specs.declared.Answer.TheVariants.{Busy}
-use Rattle.commands.specs.Script.{Sent, Kept, Script, done, stop, send, Cmd, ◌>>=◌, ◌>>◌, ask, after}
+use Rattle.commands.specs.Script.{Sent, Kept, done, stop, send, Cmd, ◌>>◌, ask}
 
 -- no poll: command byte, address in so many bytes, dummy or not, payload, reply length, delay
 abbrev pub issue : ℕ → ℕ → ℕ → Bool → List ℕ → ℕ → ℕ → Sent

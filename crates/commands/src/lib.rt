@@ -2,9 +2,11 @@
 #![tactic(auto)]
 
 ghost use Rattle.std.specs.Prelude.{◌≡◌};
-ghost use Rattle.commands.specs.Answers.{number_of};
+ghost use Rattle.commands.specs.Answers.{number_of, refusal_of};
+ghost use Rattle.commands.specs.declared.Answer.TheVariants.{InvalidAddress, BadSetting};
 
-use settings::BadRange;
+use settings::{BadRange, SettingError};
+use sfdp::SFDPError;
 
 // The answers, under the Rust's names where it has one.
 #[derive(Clone, Copy)]
@@ -31,16 +33,44 @@ pub enum Answer {
     BadSession,
 }
 
+impl From<BadRange> for Answer {
+    ghost from_gives = { λ e a. a ≡ InvalidAddress e };
+
+    fn from(e: BadRange) -> Answer {
+        Answer::InvalidAddress(e)
+    }
+}
+
+impl From<SFDPError> for Answer {
+    ghost from_gives = { λ e a. a ≡ refusal_of e };
+
+    fn from(e: SFDPError) -> Answer {
+        match e {
+            SFDPError::NoSFDP => Answer::NoSFDP,
+            SFDPError::InvalidSFDPHeader => Answer::InvalidSFDPHeader,
+            SFDPError::InvalidSFDPParams => Answer::InvalidSFDPParams,
+        }
+    }
+}
+
+impl From<SettingError> for Answer {
+    ghost from_gives = { λ e a. a ≡ BadSetting };
+
+    fn from(e: SettingError) -> Answer {
+        match e {
+            SettingError::BadSetting => Answer::BadSetting,
+        }
+    }
+}
+
 impl Answer {
     // docs/SCOPE.md's answer number.
     pub fn number(self) -> u8
         ensures { result ≡ number_of self }
     {
         match self {
-            Answer::Done => 0,
-            Answer::DoneBool(_) => 0,
-            Answer::DoneId(_, _, _) => 0,
-            Answer::ReadbackError(_, _, _) => 1,
+            Answer::Done | Answer::DoneBool(_) | Answer::DoneId(..) => 0,
+            Answer::ReadbackError(..) => 1,
             Answer::InvalidManufacturer => 2,
             Answer::InvalidSFDPHeader => 3,
             Answer::InvalidSFDPParams => 4,

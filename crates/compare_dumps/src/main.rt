@@ -4,285 +4,232 @@
 
 mod show;
 
-ghost use Rattle.std.specs.Prelude.{◌≡◌, ◌≤◌, length, take};
+ghost use Rattle.std.specs.Prelude.{◌≡◌, ◌≤◌, length, take, IfErr};
+ghost use Rattle.std.specs.Io.{ReadsAtMost};
 
-use dump_runs::{Comparison, Next};
-use files::Part;
+use dump_runs::{Comparison, DumpError, Next};
+use files::Broken;
 use show::Listing;
-use std::io;
-use std::io::Read;
+use std::error::Error;
+use std::fmt::{Display, Formatter};
+use std::io::{BufWriter, Read, Write};
 use std::rt::Files;
+use std::{fmt, io};
 
-// How it stands, or why it broke off.
-#[derive(Clone, Copy)]
-pub enum Stand {
-    Going {
-        first_ended: bool,
-        second_ended: bool,
-    },
-    Ended,
+// How many bytes of a dump are read at a time.
+const PART: usize = 4096;
+
+// Why a listing broke off.
+#[derive(Debug, Drop)]
+enum Trouble {
     FirstUnread,
     SecondUnread,
-    PastEnd,
-    TooLong,
+    Refused(DumpError),
+    // It could not be written.
+    Unwritten(io::Error),
 }
 
-#[derive(Clone, Copy)]
-pub struct State {
-    pub comparison: Comparison,
-    pub listing: Listing,
-    pub stand: Stand,
-}
-
-impl State {
-    fn new(comparison: Comparison, listing: Listing, stand: Stand) -> State {
-        State {
-            comparison,
-            listing,
-            stand,
-        }
-    }
-}
-
-// Two open files.
-#[derive(Drop)]
-pub struct Pair<F> {
-    pub first: F,
-    pub second: F,
-}
-
-// The next part of a file; nothing once it has ended.
-fn next_part<R: Eprint, F: Read>(
-    rt: &R,
-    file: &mut F,
-    name: &[u8],
-    ended: bool,
-    buf: &mut [u8],
-) -> Part
-    ensures bound { result.len ≤ length buf.new }
-    ensures prefix { result.len ≡ length (take result.len buf.new) }
-{
-    if ended {
-        return Part {
-            len: 0,
-            failed: false,
-        };
-    }
-    files::fill(rt, file, name, buf)
-}
-
-// Lists the runs that end in two parts; after is how it stands then.
-fn list<R: Print + Eprint>(
-    rt: &R,
-    c: Comparison,
-    l: Listing,
-    space: &mut [u8],
-    a: &[u8],
-    b: &[u8],
-    after: Stand,
-) -> State {
-    let mut comparison = c;
-    let mut listing = l;
-    let mut at: usize = 0;
-    loop {
-        let found = comparison.next_run(a, b, at);
-        match found {
-            Next::Found { run, next, then } => {
-                listing = listing.common(rt, space, run);
-                comparison = then;
-                at = next;
+// What happened, and what to do.
+impl Display for Trouble {
+    fn fmt<W: fmt::Write>(&self, f: &mut Formatter<W>) -> fmt::Result {
+        f.write_str(match self {
+            Trouble::FirstUnread => {
+                "the first dump could not be read to its end, runs are missing; copy it anew and compare again"
             }
-            Next::More(then) => return State::new(then, listing, after),
-            Next::PastEnd => return State::new(comparison, listing, Stand::PastEnd),
-            Next::TooLong => return State::new(comparison, listing, Stand::TooLong),
-        }
+            Trouble::SecondUnread => {
+                "the second dump could not be read to its end, runs are missing; copy it anew and compare again"
+            }
+            Trouble::Refused(DumpError::PastEnd) => {
+                "a dump grew while it was read, runs are missing; compare copies of both"
+            }
+            Trouble::Refused(DumpError::TooLong) => {
+                "a dump has 2^64 - 1 bytes or more, runs are missing; compare parts of it"
+            }
+            Trouble::Unwritten(_) => "the listing could not be written; see that there is room",
+        })
     }
 }
 
-// A file has ended if its part is not full.
-fn stand_after(p: Part, q: Part) -> Stand {
-    if p.failed {
-        return Stand::FirstUnread;
-    }
-    if q.failed {
-        return Stand::SecondUnread;
-    }
-    if p.len < 4096 {
-        if q.len < 4096 {
-            return Stand::Ended;
-        }
-    }
-    Stand::Going {
-        first_ended: p.len < 4096,
-        second_ended: q.len < 4096,
+impl Error for Trouble {}
+
+impl From<DumpError> for Trouble {
+    fn from(why: DumpError) -> Trouble {
+        Trouble::Refused(why)
     }
 }
 
-// The next parts of both files.
-fn turn<R: Print + Eprint, F: Read>(
+impl From<io::Error> for Trouble {
+    fn from(why: io::Error) -> Trouble {
+        Trouble::Unwritten(why)
+    }
+}
+
+// An open file, its name, and whether it has ended.
+#[derive(Drop)]
+struct Dump<'a, F> {
+    file: F,
+    name: &'a [u8],
+    ended: bool,
+}
+
+impl<'a, F: Read> Dump<'a, F> {
+    fn new(file: F, name: &'a [u8]) -> Dump<'a, F> {
+        Dump {
+            file,
+            name,
+            ended: false,
+        }
+    }
+
+    // Puts the next part at the start of the buffer; nothing once the file has ended. It has ended if the part is not full.
+    fn next_part<R: Eprint>(&mut self, rt: &R, buf: &mut [u8]) -> Result<usize, Broken>
+        ensures ok { ReadsAtMost result buf.new }
+        ensures bound { IfErr result (λ e. e.len ≤ length buf.new) }
+        ensures prefix { IfErr result (λ e. e.len ≡ length (take e.len buf.new)) }
+    {
+        if self.ended {
+            return Ok(0);
+        }
+        let n = files::fill(rt, &mut self.file, self.name, buf)?;
+        self.ended = n < buf.len();
+        Ok(n)
+    }
+}
+
+// Two dumps, how far they are compared, and what is listed of them.
+#[derive(Drop)]
+struct Comparing<'a, F, W> {
+    first: Dump<'a, F>,
+    second: Dump<'a, F>,
+    comparison: Comparison,
+    listing: Listing<W>,
+}
+
+impl<'a, F: Read, W: Write> Comparing<'a, F, W> {
+    // Lists the runs that end in two parts.
+    #[tactic(auto, using(dump_runs::proofs::Follows::further))]
+    fn list(&mut self, a: &[u8], b: &[u8]) -> Result<(), Trouble> {
+        let mut at = 0;
+        loop {
+            match self.comparison.next_run(a, b, at)? {
+                Next::Found { run, next, then } => {
+                    self.listing.run(run, "")?;
+                    self.comparison = then;
+                    at = next;
+                }
+                Next::More(then) => {
+                    self.comparison = then;
+                    return Ok(());
+                }
+            }
+        }
+    }
+
+    // Takes the next parts of both files, also what came of one that could not be read to its end. Whether both have ended.
+    fn turn<R: Eprint>(&mut self, rt: &R) -> Result<bool, Trouble> {
+        let mut a = [0u8; PART];
+        let mut b = [0u8; PART];
+        let first = self.first.next_part(rt, &mut a);
+        let second = self.second.next_part(rt, &mut b);
+        let n = first.unwrap_or_else(|broken| broken.len);
+        let m = second.unwrap_or_else(|broken| broken.len);
+        self.list(&a[..n], &b[..m])?;
+        first.map_err(|_| Trouble::FirstUnread)?;
+        second.map_err(|_| Trouble::SecondUnread)?;
+        Ok(self.first.ended && self.second.ended)
+    }
+
+    // Takes all parts: 2^52 of them would be 2^64 bytes.
+    fn turns<R: Eprint>(&mut self, rt: &R) -> Result<(), Trouble> {
+        for _ in 0..0x10_0000_0000_0000u64 {
+            if self.turn(rt)? {
+                return Ok(());
+            }
+        }
+        Err(Trouble::Refused(DumpError::TooLong))
+    }
+
+    // Lists the run at the end of the common part, and what the longer dump has past the other.
+    fn last_runs(&mut self) -> io::Result<()> {
+        let c = self.comparison;
+        if let Some(run) = c.open_run() {
+            self.listing.run(run, "")?;
+        }
+        if let Some(run) = c.tail() {
+            let note = if 0 < c.first {
+                " only in the first dump"
+            } else {
+                " only in the second dump"
+            };
+            self.listing.run(run, note)?;
+        }
+        Ok(())
+    }
+
+    // Writes the whole listing.
+    fn write<R: Eprint>(&mut self, rt: &R) -> io::Result<()> {
+        match self.turns(rt) {
+            Ok(()) => {
+                self.last_runs()?;
+                self.listing.verdict(self.comparison.start)?;
+            }
+            Err(Trouble::Unwritten(e)) => return Err(e),
+            Err(why) => self.listing.error(&why)?,
+        }
+        self.listing.flush()
+    }
+}
+
+// After a write that failed nothing is written any more: the lines that wait are dropped. The system's reason goes to standard error.
+fn compare_open<R: Print + Eprint + AllocGlobal, F: Read + Drop>(
     rt: &R,
-    pair: &mut Pair<F>,
-    one: &[u8],
-    two: &[u8],
-    space: &mut [u8],
-    s: State,
-) -> State {
-    let stand = s.stand;
-    match stand {
-        Stand::Going {
-            first_ended,
-            second_ended,
-        } => {
-            let mut a = [0u8; 4096];
-            let mut b = [0u8; 4096];
-            let p = next_part(rt, &mut pair.first, one, first_ended, &mut a);
-            let q = next_part(rt, &mut pair.second, two, second_ended, &mut b);
-            let n = p.len;
-            let m = q.len;
-            let c = s.comparison;
-            let l = s.listing;
-            list(rt, c, l, space, &a[..n], &b[..m], stand_after(p, q))
-        }
-        _ => s,
-    }
-}
-
-// Nothing goes on after a write that failed.
-fn is_going(s: State) -> bool {
-    let stand = s.stand;
-    match stand {
-        Stand::Going { .. } => !s.listing.failed,
-        _ => false,
-    }
-}
-
-// All parts: 2^52 of them would be 2^64 bytes.
-fn compare<R: Print + Eprint, F: Read>(
-    rt: &R,
-    pair: &mut Pair<F>,
-    one: &[u8],
-    two: &[u8],
-    space: &mut [u8],
-) -> State {
-    let mut s = State {
+    first: Dump<'_, F>,
+    second: Dump<'_, F>,
+) -> io::Result<()> {
+    let out = BufWriter::with_capacity(rt.alloc(), 65536, io::writer(rt))?;
+    let mut comparing = Comparing {
+        first,
+        second,
         comparison: Comparison::new(),
-        listing: Listing::new(),
-        stand: Stand::Going {
-            first_ended: false,
-            second_ended: false,
-        },
+        listing: Listing::new(out),
     };
-    let mut turns: u64 = 0x10_0000_0000_0000;
-    while turns > 0 {
-        s = turn(rt, pair, one, two, space, s);
-        if is_going(s) {
-            turns -= 1;
-        } else {
-            turns = 0;
-        }
+    if let Err(e) = comparing.write(rt) {
+        files::fail(rt, b"standard output", &e);
+        let _ = comparing.listing.into_writer().into_parts();
     }
-    s
-}
-
-// What the longer dump has past the other.
-fn tail<R: Print + Eprint>(rt: &R, c: Comparison, l: Listing, space: &mut [u8]) -> Listing {
-    if 0 < c.first {
-        return l.run(rt, space, c.tail(), b" only in the first dump");
-    }
-    l.run(rt, space, c.tail(), b" only in the second dump")
-}
-
-fn verdict<R: Print + Eprint>(rt: &R, c: Comparison, l: Listing, space: &mut [u8]) -> Listing {
-    if l.runs == 0 {
-        return l.number(rt, space, b"equal: bytes ", c.start);
-    }
-    l.number(rt, space, b"differ: runs ", l.runs)
-        .number(rt, space, b", bytes ", l.bytes)
-}
-
-// The run at the end of the common part, the tail, and the last line.
-fn close_list<R: Print + Eprint>(rt: &R, c: Comparison, l: Listing, space: &mut [u8]) -> Listing {
-    let common = l.common(rt, space, c.open_run());
-    let all = tail(rt, c, common, space);
-    verdict(rt, c, all, space).text(rt, space, b"\n")
-}
-
-fn finish<R: Print + Eprint>(rt: &R, s: State, space: &mut [u8]) -> Listing {
-    let stand = s.stand;
-    let l = s.listing;
-    match stand {
-        Stand::Ended => {
-            let c = s.comparison;
-            close_list(rt, c, l, space)
-        }
-        Stand::FirstUnread => l.text(
-            rt,
-            space,
-            b"error: the first dump could not be read to its end, runs are missing; copy it anew and compare again\n",
-        ),
-        Stand::SecondUnread => l.text(
-            rt,
-            space,
-            b"error: the second dump could not be read to its end, runs are missing; copy it anew and compare again\n",
-        ),
-        Stand::PastEnd => l.text(
-            rt,
-            space,
-            b"error: a dump grew while it was read, runs are missing; compare copies of both\n",
-        ),
-        _ => l.text(
-            rt,
-            space,
-            b"error: a dump has 2^64 - 1 bytes or more, runs are missing; compare parts of it\n",
-        ),
-    }
-}
-
-fn compare_open<R: Print + Eprint, F: Read>(rt: &R, pair: &mut Pair<F>, one: &[u8], two: &[u8]) {
-    let mut space = [0u8; 65536];
-    let s = compare(rt, pair, one, two, &mut space);
-    let l = finish(rt, s, &mut space);
-    l.flush(rt, &space);
-}
-
-fn say<R: Print>(rt: &R, s: &str) -> io::Result<()> {
-    rt.println(s)
-}
-
-fn compare_named<R: Files + Print + Eprint>(rt: &R, one: &[u8], two: &[u8]) -> io::Result<()> {
-    let Some(first) = files::open(rt, one) else {
-        return say(
-            rt,
-            "error: the first dump cannot be read; see that the name is right, that it is a file and that you may read it",
-        );
-    };
-    let Some(second) = files::open(rt, two) else {
-        return say(
-            rt,
-            "error: the second dump cannot be read; see that the name is right, that it is a file and that you may read it",
-        );
-    };
-    let mut pair = Pair { first, second };
-    compare_open(rt, &mut pair, one, two);
     Ok(())
 }
 
+fn compare_named<R: Files + Print + Eprint + AllocGlobal>(
+    rt: &R,
+    one: &[u8],
+    two: &[u8],
+) -> io::Result<()> {
+    let Some(first) = files::open(rt, one) else {
+        return println!(rt;
+            "error: the first dump cannot be read; see that the name is right, that it is a file and that you may read it"
+        );
+    };
+    let Some(second) = files::open(rt, two) else {
+        return println!(rt;
+            "error: the second dump cannot be read; see that the name is right, that it is a file and that you may read it"
+        );
+    };
+    compare_open(rt, Dump::new(first, one), Dump::new(second, two))
+}
+
 fn help<R: Print>(rt: &R) -> io::Result<()> {
-    say(
-        rt,
-        "compare_dumps FIRST SECOND lists every differing run of two files: where it starts (hexadecimal), its length in bytes, and",
+    println!(rt;
+        "compare_dumps FIRST SECOND lists every differing run of two files: where it starts (hexadecimal), its length in bytes, and"
     )?;
-    say(
-        rt,
-        "the index of each 4,096-byte block that it meets. What only the longer file has is one last run.",
+    println!(rt;
+        "the index of each 4,096-byte block that it meets. What only the longer file has is one last run."
     )?;
-    say(
-        rt,
-        "The last line begins with equal, differ or error; a listing without one is not whole.",
+    println!(rt;
+        "The last line begins with equal, differ or error; a listing without one is not whole."
     )?;
-    say(
-        rt,
-        "tools/compare-dumps does the same with an exit status: 0 equal, 1 differ, 2 error.",
+    println!(rt;
+        "tools/compare-dumps does the same with an exit status: 0 equal, 1 differ, 2 error."
     )
 }
 
@@ -291,16 +238,11 @@ fn main(rt: HostRuntime) -> io::Result<()> {
     let mut two = [0u8; 4096];
     let first = files::argument(&rt, 1, &mut one);
     let second = files::argument(&rt, 2, &mut two);
-    let n = first.len;
-    let m = second.len;
-    if files::is_help(&one[..n]) {
-        return help(&rt);
+    match (first, second) {
+        (Ok(name), _) if files::is_help(name) => help(&rt),
+        (Ok(first), Ok(second)) if files::is_missing(&rt, 3) => compare_named(&rt, first, second),
+        _ => println!(rt;
+            "error: two names are needed: compare_dumps FIRST SECOND, the files of two dumps"
+        ),
     }
-    if first.failed | second.failed | !files::is_missing(&rt, 3) {
-        return say(
-            &rt,
-            "error: two names are needed: compare_dumps FIRST SECOND, the files of two dumps",
-        );
-    }
-    compare_named(&rt, &one[..n], &two[..m])
 }

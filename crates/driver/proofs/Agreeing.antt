@@ -1,4 +1,5 @@
 -- The driver by value and the scripts agree call by call.
+use Rattle.std.proofs.Common.{Result, Ok, Err}
 use mathlib.Core.Path.{◌≡◌, refl, sym, ap, ◌∙◌, subst}
 use mathlib.Core.Bool.{Bool, true, false, cond}
 use mathlib.Core.Logic.{◌⊎◌, inl, inr, ⊎_elim}
@@ -11,8 +12,7 @@ use lib.ListN.{length, take, drop, length-append, length-take, take-append-drop}
 use lib.Seq.{take-append-le, take_at, take-take, length-take-le}
 use borrow.Author.Tests.{le-ltb, lt-ltb, ltb-true, ltb-false}
 use Rattle.settings.specs.declared.Settings.{Settings}
-use Rattle.settings.specs.declared.SetAnswer.{SetAnswer}
-use Rattle.settings.specs.declared.SetAnswer.TheVariants.{Set, BadSetting as Refused}
+use Rattle.settings.specs.declared.SettingError.{SettingError}
 use Rattle.erase_plan.specs.Good.{Each}
 use Rattle.erase_plan.proofs.Lists.{by_cond, no_true, no_false, each_append}
 use Rattle.commands.specs.declared.Answer.{Answer}
@@ -169,25 +169,25 @@ told_set s x a n i e =
     ap (λ (z : Event). record { session = with_settings s x; event = z }) (event_set s x s.phase i ∙ ap (λ (z : Stepped). z.event) e)
 
 module _ (s : Session) (now : Now) (b : List ℕ) (q : Agree s now b) (i : Idles s now) (x : Setter) (t : Typed (Sets x)) where
-  there : (a : SetAnswer) → tried x s.settings ≡ a → sets_in x now now.tree ≡ sets now i.ending a
+  there : (a : Result Settings SettingError) → tried x s.settings ≡ a → sets_in x now now.tree ≡ sets now i.ending a
   there a e =
       ap (λ (z : Tree). sets_in x now z) i.is
       ∙ ap (λ (z : Settings). sets now i.ending (tried x z)) (sym (ap (λ (w : Kept). w.settings) i.kept))
       ∙ ap (sets now i.ending) e
 
-  here' : (a : SetAnswer) → tried x s.settings ≡ a → setter_of x s ≡ set_to s a
+  here' : (a : Result Settings SettingError) → tried x s.settings ≡ a → setter_of x s ≡ set_to s a
   here' a e = idle_setting s (tried x s.settings) i.ended ∙ ap (set_to s) e
 
   idle_sets : SameAs s now b (Sets x)
   idle_sets = by (tried x s.settings) refl
     where
-      by : (a : SetAnswer) → tried x s.settings ≡ a → SameAs s now b (Sets x)
-      by (Set new) e =
-          same_by by_value scripts (λ x. x) Agree s now b (Sets x) (back_of (record { out = set_to s (Set new); room = [] })) (sets now i.ending (Set new))
-          (ap (λ (z : Stepped). back_of (record { out = z; room = [] })) (here' (Set new) e)) (there (Set new) e) refl refl
+      by : (a : Result Settings SettingError) → tried x s.settings ≡ a → SameAs s now b (Sets x)
+      by (Ok new) e =
+          same_by by_value scripts (λ x. x) Agree s now b (Sets x) (back_of (record { out = set_to s (Ok new); room = [] })) (sets now i.ending (Ok new))
+          (ap (λ (z : Stepped). back_of (record { out = z; room = [] })) (here' (Ok new) e)) (there (Ok new) e) refl refl
           (ap (λ (w : Kept). record { settings = new; known = w.known; params = w.params; room = [] }) i.kept)
           (record {
-            whole = subst (λ (z : Stepped). Whole z.session) (here' (Set new) e) (set_whole x s t q.whole);
+            whole = subst (λ (z : Stepped). Whole z.session) (here' (Ok new) e) (set_whole x s t q.whole);
             bytes = q.bytes;
             state = inl (record {
               ending = outcome new i.ending;
@@ -197,9 +197,9 @@ module _ (s : Session) (now : Now) (b : List ℕ) (q : Agree s now b) (i : Idles
               kept = ap (λ (w : Kept). record { settings = new; known = w.known; params = w.params; room = [] }) i.kept;
             });
           })
-      by Refused e =
-          same_by by_value scripts (λ x. x) Agree s now b (Sets x) (back_of (record { out = set_to s Refused; room = [] })) (sets now i.ending Refused)
-          (ap (λ (z : Stepped). back_of (record { out = z; room = [] })) (here' Refused e)) (there Refused e) refl refl
+      by (Err z) e =
+          same_by by_value scripts (λ x. x) Agree s now b (Sets x) (back_of (record { out = set_to s (Err z); room = [] })) (sets now i.ending (Err z))
+          (ap (λ (z : Stepped). back_of (record { out = z; room = [] })) (here' (Err z) e)) (there (Err z) e) refl refl
           (i.kept ∙ sym (kept_there now i.ending i.is)) q
 
 -- ---- a step of an ended command

@@ -1,16 +1,16 @@
 -- What a host can reach keeps parameters from a table, so that demand 3 holds from there on.
+use Rattle.std.proofs.Common.{Result, Ok, Err}
 use mathlib.Core.Path.{◌≡◌, refl, sym, ap, ◌∙◌, subst}
 use mathlib.Core.Bool.{Bool, true, false}
 use mathlib.Core.List.{List, [], ◌∷◌}
 use Prim.Native.Nat.{ℕ}
 use lib.Dec.{ltb}
 use lib.ListN.{length, take}
+use Rattle.sfdp.specs.declared.SFDPError.{SFDPError}
 use Rattle.sfdp.specs.Jesd216.{read_table}
 use Rattle.sfdp.specs.declared.FlashParams.{FlashParams}
-use Rattle.sfdp.specs.declared.ReadParams.{ReadParams}
-use Rattle.sfdp.specs.declared.ReadParams.TheVariants as OfTable
-use Rattle.settings.specs.declared.SetAnswer.{SetAnswer}
-use Rattle.settings.specs.declared.SetAnswer.TheVariants.{Set, BadSetting as Refused}
+use Rattle.settings.specs.declared.Settings.{Settings}
+use Rattle.settings.specs.declared.SettingError.{SettingError}
 use Rattle.erase_plan.specs.Good.{Each}
 use Rattle.erase_plan.proofs.Lists.{by_cond, no_true}
 use Rattle.commands.specs.declared.Answer.{Answer}
@@ -39,7 +39,7 @@ use Rattle.driver.proofs.Agreeing.{Agree, plainly, turns, at_first}
 
 -- parameters, if there are any, are those of a table
 pub record FromTable (s : Session) : Type 0 where
-  pub read : s.known ≡ true → (minor : ℕ) × (count : ℕ) × (table : List ℕ) × (read_table minor count table ≡ OfTable.Params s.params)
+  pub read : s.known ≡ true → (minor : ℕ) × (count : ℕ) × (table : List ℕ) × (read_table minor count table ≡ Ok s.params)
 
 abbrev From : Stepped → Type 0
 From x = FromTable x.session
@@ -49,10 +49,10 @@ unfolding told
 told_from s h = h
 
 -- ---- a step
-table_from : (s : Session) (n minor plen : ℕ) (r : List ℕ) (t : ReadParams) → read_table minor plen r ≡ t → FromTable s → FromTable (with_table s n t)
+table_from : (s : Session) (n minor plen : ℕ) (r : List ℕ) (t : Result FlashParams SFDPError) → read_table minor plen r ≡ t → FromTable s → FromTable (with_table s n t)
 unfolding with_table
-table_from s n minor plen r OfTable.InvalidSFDPParams e h = record { read = h.read }
-table_from s n minor plen r (OfTable.Params p) e h = record { read = λ k. (minor, plen, r, e) }
+table_from s n minor plen r (Err x) e h = record { read = h.read }
+table_from s n minor plen r (Ok p) e h = record { read = λ k. (minor, plen, r, e) }
 
 read_from : (s : Session) (n : ℕ) (c : ReadCommand) (r : List ℕ) → FromTable s → FromTable (read_on s n c r)
 unfolding read_on
@@ -84,11 +84,11 @@ step_from_lem s failing r room h =
     (λ t. by_cond (λ (x : Taken). From x.out) (is_full s failing r) _ _ (λ t. told_from _ (goes_from s _ s.phase r room h)) (λ t. told_from _ (record { read = h.read }))))
 
 -- ---- a setter
-set_from : (s : Session) (a : SetAnswer) → FromTable s → From (set_to s a)
-set_from s (Set x) h = record { read = h.read }
-set_from s Refused h = h
+set_from : (s : Session) (a : Result Settings SettingError) → FromTable s → From (set_to s a)
+set_from s (Ok x) h = record { read = h.read }
+set_from s (Err e) h = h
 
-setting_from : (s : Session) (a : SetAnswer) → FromTable s → From (setting s a)
+setting_from : (s : Session) (a : Result Settings SettingError) → FromTable s → From (setting s a)
 unfolding setting unless_runs
 setting_from s a h = by_cond From (is_ended s.phase) _ _ (λ t. set_from s a h) (λ t. h)
 

@@ -1,4 +1,5 @@
 -- A step looks at the first bytes of the room that its command needs, and changes no others; so does the transaction that it waits on.
+use Rattle.std.proofs.Common.{Some, None, Option}
 use mathlib.Core.Path.{◌≡◌, refl, sym, ap, ◌∙◌}
 use mathlib.Core.Bool.{Bool, true, false, cond, not, ◌&&◌}
 use mathlib.Core.List.{List, [], ◌∷◌, ◌++◌, append_assoc}
@@ -18,8 +19,7 @@ use Rattle.commands.specs.Transactions.{ready}
 use Rattle.commands.specs.Commands.{blank}
 use Rattle.room.specs.Room.{laid, part_of}
 use Rattle.room.proofs.Laws.{laid_fits}
-use Rattle.erase_plan.specs.declared.Next.{Next}
-use Rattle.erase_plan.specs.declared.Next.TheVariants.{Nothing, Entry}
+use Rattle.erase_plan.specs.declared.NextEntry.{NextEntry}
 use Rattle.phases.specs.declared.Job.{Job}
 use Rattle.phases.specs.declared.Transaction.{Transaction}
 use Rattle.phases.specs.declared.ReadCommand.{ReadCommand}
@@ -96,10 +96,10 @@ read_takes s Reads.Id n = record { within = omega arith }
 read_takes s Reads.IdAgain n = record { within = omega arith }
 read_takes s Reads.Protected n = record { within = omega arith }
 
-block_takes : (bytes n : ℕ) (e : Next) → Takes n (block_tx bytes e)
+block_takes : (bytes n : ℕ) (e : Option NextEntry) → Takes n (block_tx bytes e)
 unfolding block_tx
-block_takes bytes n Nothing = record { within = omega arith }
-block_takes bytes n (Entry e stop) = record { within = omega arith }
+block_takes bytes n None = record { within = omega arith }
+block_takes bytes n (Some e) = record { within = omega arith }
 
 erase_takes : (s : Session) (c : EraseCommand) (n : ℕ) → Takes n (erase_tx s c)
 unfolding erase_tx

@@ -1,10 +1,9 @@
 -- A driver, whatever it keeps; a host that calls it as it likes; and the scripts as such a driver. What a host sees of the one is what
 -- it sees of the other.
-use Rattle.std.specs.Prelude.{◌≡◌, Bool, true, false, cond, List, [], ◌∷◌, ◌++◌, ℕ, ◌<◌, ◌^◌, ltb, length, take, drop}
+use Rattle.std.specs.Prelude.{◌≡◌, Bool, true, false, cond, List, [], ◌∷◌, ◌++◌, ℕ, ◌<◌, ◌^◌, ltb, length, take, drop, Result, Ok, Err}
 use Rattle.sfdp.specs.Jesd216.{no_params}
 use Rattle.settings.specs.declared.Settings.{Settings}
-use Rattle.settings.specs.declared.SetAnswer.{SetAnswer}
-use Rattle.settings.specs.declared.SetAnswer.TheVariants.{Set, BadSetting as Refused}
+use Rattle.settings.specs.declared.SettingError.{SettingError}
 use Rattle.settings.specs.Limits.{defaults}
 use Rattle.erase_plan.specs.Good.{Each}
 use Rattle.commands.specs.declared.Answer.{Answer}
@@ -143,9 +142,9 @@ abbrev pub starts : Call → Now → Tree → List ℕ → Back Now Answer
 starts c now (ends o) room = let new = script_of c (roomed o.kept room) in begins now new new.tree room
 starts c now (asks s f) room = stays now room BadSession 0
 
-abbrev pub sets : Now → Outcome → SetAnswer → Back Now Answer
-sets now o (Set s) = record { held = record { need = now.need; tree = ends (outcome s o) }; told = answers Done 0; room = [] }
-sets now o Refused = stays now [] BadSetting 0
+abbrev pub sets : Now → Outcome → Result Settings SettingError → Back Now Answer
+sets now o (Ok s) = record { held = record { need = now.need; tree = ends (outcome s o) }; told = answers Done 0; room = [] }
+sets now o (Err e) = stays now [] BadSetting 0
 
 abbrev pub sets_in : Setter → Now → Tree → Back Now Answer
 sets_in x now (ends o) = sets now o (tried x o.kept.settings)

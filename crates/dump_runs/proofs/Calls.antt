@@ -7,33 +7,27 @@ use native.Mathlib.Omega.{arith}
 use borrow.Author.Tests.{leb-false}
 use lib.ListN.{length, drop}
 use Rattle.dump_runs.specs.declared.Comparison.{Comparison}
-use Rattle.dump_runs.specs.declared.Next.{Next}
-use Rattle.dump_runs.specs.declared.Next.TheVariants.{PastEnd, TooLong}
+use Rattle.std.specs.Prelude.{Ok, Err}
+use Rattle.dump_runs.specs.declared.DumpError.TheVariants.{PastEnd, TooLong}
 use Rattle.dump_runs.specs.Steps.{most, goes_on, too_long, scan_of, next_of}
 
 module _ (c : Comparison) (a b : List ℕ) (i : ℕ) where
-  pub call_second : goes_on c.first (length b - i) ≡ true → next_of c a b i ≡ PastEnd
+  pub call_second : goes_on c.first (length b - i) ≡ true → next_of c a b i ≡ Err PastEnd
   unfolding next_of
   call_second h = rw h
 
   module _ (s : goes_on c.first (length b - i) ≡ false) where
-    pub call_first : goes_on c.second (length a - i) ≡ true → next_of c a b i ≡ PastEnd
+    pub call_first : goes_on c.second (length a - i) ≡ true → next_of c a b i ≡ Err PastEnd
     unfolding next_of
     call_first h = rw (s, h)
 
     module _ (f : goes_on c.second (length a - i) ≡ false) where
-      pub call_long : too_long c (length a - i) (length b - i) ≡ true → next_of c a b i ≡ TooLong
+      pub call_long : too_long c (length a - i) (length b - i) ≡ true → next_of c a b i ≡ Err TooLong
       unfolding next_of
       call_long h = rw (s, f, h)
 
-      -- whatever the scan gives is the call's answer
-      pub call_gives : {v : Next} → v ≡ scan_of c.first c.second c.start c.len i (drop i a) (drop i b)
-          → too_long c (length a - i) (length b - i) ≡ false → v ≡ next_of c a b i
-      unfolding next_of
-      call_gives e h = rw (s, f, h) e
-
       pub call_scans : too_long c (length a - i) (length b - i) ≡ false
-          → next_of c a b i ≡ scan_of c.first c.second c.start c.len i (drop i a) (drop i b)
+          → next_of c a b i ≡ Ok (scan_of c.first c.second c.start c.len i (drop i a) (drop i b))
       unfolding next_of
       call_scans h = rw (s, f, h)
 

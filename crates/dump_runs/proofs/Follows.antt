@@ -6,15 +6,18 @@ use mathlib.Core.Logic.{◌⊎◌, inl, inr, ⊎_elim}
 use mathlib.Core.List.{List, [], ◌∷◌, ◌++◌}
 use native.Mathlib.Omega.{arith}
 use borrow.Author.Tests.{lt-ltb}
+use Rattle.std.specs.Prelude.{Ok, Option}
+use Rattle.std.specs.Option.{option_to_list}
 use lib.ListN.{length, drop, replicate, length-append, length-drop, length-replicate, drop_of_length-le}
 use Rattle.dump_runs.specs.declared.Run.{Run}
 use Rattle.dump_runs.specs.declared.Comparison.{Comparison}
-use Rattle.dump_runs.specs.declared.Next.TheVariants.{Found, More, PastEnd, TooLong}
-use Rattle.dump_runs.specs.Steps.{most, begun, goes_on, too_long, next_of, open_of, tail_of}
-use Rattle.dump_runs.specs.Host.{Parts, firsts, seconds, some, Asks, found, done, Compares, closed, part}
+use Rattle.dump_runs.specs.declared.Next.{Next}
+use Rattle.dump_runs.specs.declared.Next.TheVariants.{Found, More}
+use Rattle.dump_runs.specs.Steps.{most, begun, goes_on, too_long, scan_of, next_of, stretch_of, open_of, tail_of}
+use Rattle.dump_runs.specs.Host.{Parts, firsts, seconds, Asks, found, done, Compares, closed, part}
 use Rattle.dump_runs.proofs.Sums.{le_or_lt}
 use Rattle.dump_runs.proofs.Calls.{call_second, call_first, call_long, call_scans, short_first, short_second}
-use Rattle.dump_runs.proofs.Whole.{stretch, runs_from, runs_first, runs_second}
+use Rattle.dump_runs.proofs.Whole.{stretch, some, runs_from, runs_first, runs_second}
 use Rattle.dump_runs.proofs.Outcomes.{Finds, Stops, Outcome, outcome}
 
 -- ---- a call that is not refused
@@ -26,49 +29,46 @@ gone passed rest h p =
     (λ (e : 0 < rest). let t : goes_on passed rest ≡ true = rw (lt-ltb 0 passed p, lt-ltb 0 rest e) in absurd (true≢false (sym t ∙ h)))
     (le_or_lt rest 0)
 
-pub record Accepted (c : Comparison) (a b : List ℕ) (i : ℕ) : Type 0 where
+pub record Accepted (c : Comparison) (a b : List ℕ) (i : ℕ) (v : Next) : Type 0 where
   pub first : 0 < c.first → length b ≤ i
   pub second : 0 < c.second → length a ≤ i
   pub short_a : c.start + c.len + c.first + (length a - i) < most
   pub short_b : c.start + c.len + c.second + (length b - i) < most
-  pub came : Outcome c.first c.second a b c.start c.len i (next_of c a b i)
+  pub came : Outcome c.first c.second a b c.start c.len i v
 
-module _ (c : Comparison) (a b : List ℕ) (i : ℕ) (in_time : next_of c a b i ≡ PastEnd → ⊥) (short : next_of c a b i ≡ TooLong → ⊥) where
+module _ (c : Comparison) (a b : List ℕ) (i : ℕ) (v : Next) (given : next_of c a b i ≡ Ok v) where
   by_tests : (s : Bool) → goes_on c.first (length b - i) ≡ s → (f : Bool) → goes_on c.second (length a - i) ≡ f → (t : Bool)
-      → too_long c (length a - i) (length b - i) ≡ t → Accepted c a b i
-  by_tests true es f ef t et = absurd (in_time (call_second c a b i es))
-  by_tests false es true ef t et = absurd (in_time (call_first c a b i es ef))
-  by_tests false es false ef true et = absurd (short (call_long c a b i es ef et))
-  by_tests false es false ef false et = record {
-    first = λ (h : 0 < c.first). let e : length b - i ≤ 0 = gone c.first (length b - i) es h in omega arith;
-    second = λ (h : 0 < c.second). let e : length a - i ≤ 0 = gone c.second (length a - i) ef h in omega arith;
-    short_a = short_first c (length a - i) (length b - i) et;
-    short_b = short_second c (length a - i) (length b - i) et;
-    came = rw (call_scans c a b i es ef et) (outcome c.first c.second a b c.start c.len i);
-  }
+      → too_long c (length a - i) (length b - i) ≡ t → Accepted c a b i v
+  by_tests true es f ef t et = let z = call_second c a b i es in absurd (cc)
+  by_tests false es true ef t et = let z = call_first c a b i es ef in absurd (cc)
+  by_tests false es false ef true et = let z = call_long c a b i es ef et in absurd (cc)
+  by_tests false es false ef false et =
+      let z = call_scans c a b i es ef et in
+      let e : v ≡ scan_of c.first c.second c.start c.len i (drop i a) (drop i b) = cc in
+      record {
+        first = λ (h : 0 < c.first). let e : length b - i ≤ 0 = gone c.first (length b - i) es h in omega arith;
+        second = λ (h : 0 < c.second). let e : length a - i ≤ 0 = gone c.second (length a - i) ef h in omega arith;
+        short_a = short_first c (length a - i) (length b - i) et;
+        short_b = short_second c (length a - i) (length b - i) et;
+        came = rw e (outcome c.first c.second a b c.start c.len i);
+      }
 
-  accepted : Accepted c a b i
+  accepted : Accepted c a b i v
   accepted =
       by_tests (goes_on c.first (length b - i)) refl (goes_on c.second (length a - i)) refl (too_long c (length a - i) (length b - i)) refl
 
 module _ (c : Comparison) (a b : List ℕ) (i : ℕ) where
-  at_found : (r : Run) (j : ℕ) (d : Comparison) → next_of c a b i ≡ Found r j d → Accepted c a b i
-  at_found r j d h =
-      accepted c a b i
-      (λ (e : next_of c a b i ≡ PastEnd). let z : ◌≡◌ {A = ℕ} 0 1 = cc in omega arith)
-      (λ (e : next_of c a b i ≡ TooLong). let z : ◌≡◌ {A = ℕ} 0 1 = cc in omega arith)
+  at_found : (r : Run) (j : ℕ) (d : Comparison) → next_of c a b i ≡ Ok (Found r j d) → Accepted c a b i (Found r j d)
+  at_found r j d h = accepted c a b i (Found r j d) h
 
-  at_more : (d : Comparison) → next_of c a b i ≡ More d → Accepted c a b i
-  at_more d h =
-      accepted c a b i
-      (λ (e : next_of c a b i ≡ PastEnd). let z : ◌≡◌ {A = ℕ} 0 1 = cc in omega arith)
-      (λ (e : next_of c a b i ≡ TooLong). let z : ◌≡◌ {A = ℕ} 0 1 = cc in omega arith)
+  at_more : (d : Comparison) → next_of c a b i ≡ Ok (More d) → Accepted c a b i (More d)
+  at_more d h = accepted c a b i (More d) h
 
-  pub finds : (r : Run) (j : ℕ) (d : Comparison) → next_of c a b i ≡ Found r j d → Finds c.first c.second a b c.start c.len i r j d
-  finds r j d h = rw h at (at_found r j d h).came
+  pub finds : (r : Run) (j : ℕ) (d : Comparison) → next_of c a b i ≡ Ok (Found r j d) → Finds c.first c.second a b c.start c.len i r j d
+  finds r j d h = (at_found r j d h).came
 
-  pub stops : (d : Comparison) → next_of c a b i ≡ More d → Stops c.first c.second a b c.start c.len i d
-  stops d h = rw h at (at_more d h).came
+  pub stops : (d : Comparison) → next_of c a b i ≡ Ok (More d) → Stops c.first c.second a b c.start c.len i d
+  stops d h = (at_more d h).came
 
 -- ---- the runs that a comparison still has ahead: the bytes that were passed count as any bytes
 abbrev pad : ℕ → List ℕ
@@ -110,7 +110,7 @@ padded s n (u ∷ x) (v ∷ y) p q h hx hy = absurd (⊎_elim (λ (e : suc (leng
 
 -- ---- a call, and the runs ahead before and after it
 module _ (c : Comparison) (a b : List ℕ) (i : ℕ) (fine : Fine c) where
-  module _ (r : Run) (j : ℕ) (d : Comparison) (h : next_of c a b i ≡ Found r j d) where
+  module _ (r : Run) (j : ℕ) (d : Comparison) (h : next_of c a b i ≡ Ok (Found r j d)) where
     none_first : c.first ≡ 0
     none_first =
         let o = finds c a b i r j d h in
@@ -142,7 +142,7 @@ module _ (c : Comparison) (a b : List ℕ) (i : ℕ) (fine : Fine c) where
         let o = finds c a b i r j d h in
         rw (o.first, o.second, none_first, none_second) (o.runs p q)
 
-  module _ (d : Comparison) (h : next_of c a b i ≡ More d) where
+  module _ (d : Comparison) (h : next_of c a b i ≡ Ok (More d)) where
     pub sum_first : d.start + d.len + d.first ≡ c.start + c.len + c.first + (length a - i)
     sum_first =
         let o = stops c a b i d h in
@@ -269,23 +269,23 @@ ends_second (part {c} {d} {p} {ps} {l} {m} k n) fine z =
     let f = asks_second k fine z in nil p.first (firsts ps) f.0 (ends_second n (asks_fine k fine) f.1)
 
 -- what is left at the end
-passed_tail : (c : Comparison) → Fine c → (k : ℕ) → k ≡ c.first + c.second → tail_of c ≡ stretch (c.start + c.len) k
+passed_tail : (c : Comparison) → Fine c → (k : ℕ) → k ≡ c.first + c.second → tail_of c ≡ stretch_of (c.start + c.len) k
 passed_tail c fine k e =
     let x : min (c.start + c.len) most ≡ c.start + c.len = omega arith in
     let y : min (c.first + c.second) most ≡ k = ⊎_elim (λ (z : c.first ≡ 0). omega arith) (λ (z : c.second ≡ 0). omega arith) fine.apart in
-    λ i. record { start = x i; len = y i }
+    rw (x, y)
 
-closing : (c : Comparison) → Fine c → some (open_of c) ++ some (tail_of c) ≡ ahead c [] []
+closing : (c : Comparison) → Fine c → option_to_list (open_of c) ++ option_to_list (tail_of c) ≡ ahead c [] []
 unfolding ahead
 closing c fine =
     ⊎_elim
     (λ (z : c.first ≡ 0).
     let e : length (pad c.second ++ []) ≡ c.first + c.second = simp (length-append, length-replicate) (omega arith) in
-    ap (λ (t : Run). some (open_of c) ++ some t) (passed_tail c fine (length (pad c.second ++ [])) e)
+    ap (λ (t : Option Run). option_to_list (open_of c) ++ option_to_list t) (passed_tail c fine (length (pad c.second ++ [])) e)
     ∙ rw z (sym (runs_first c.start c.len (pad c.second ++ []))))
     (λ (z : c.second ≡ 0).
     let e : length (pad c.first ++ []) ≡ c.first + c.second = simp (length-append, length-replicate) (omega arith) in
-    ap (λ (t : Run). some (open_of c) ++ some t) (passed_tail c fine (length (pad c.first ++ [])) e)
+    ap (λ (t : Option Run). option_to_list (open_of c) ++ option_to_list t) (passed_tail c fine (length (pad c.first ++ [])) e)
     ∙ rw z (sym (runs_second c.start c.len (pad c.first ++ []))))
     fine.apart
 
@@ -304,5 +304,5 @@ unfolding ahead
 compares_runs ps l h = compares_ahead h begun_fine
 
 -- each call that finds a run comes further: for a loop of calls
-pub further : (c : Comparison) (a b : List ℕ) (i : ℕ) (r : Run) (j : ℕ) (d : Comparison) → next_of c a b i ≡ Found r j d → (i < j) × (j ≤ length a)
+pub further : (c : Comparison) (a b : List ℕ) (i : ℕ) (r : Run) (j : ℕ) (d : Comparison) → next_of c a b i ≡ Ok (Found r j d) → (i < j) × (j ≤ length a)
 further c a b i r j d h = ((finds c a b i r j d h).later, (finds c a b i r j d h).in_a)

@@ -6,7 +6,7 @@ use native.Mathlib.Omega.{arith}
 use borrow.Author.Tests.{eq-eqb, ne_eqb}
 use Rattle.dump_runs.specs.declared.Run.{Run}
 use Rattle.dump_runs.specs.Blocks.{Meets, Among, blocks_of, BlocksRight}
-use Rattle.dump_runs.proofs.Sums.{equal_or_not}
+use Rattle.std.proofs.lemmas.Bool.{cases_eq}
 
 met_among : (r : Run) (k : ℕ) → Meets r k → Among (blocks_of r) k
 met_among r k m =
@@ -24,7 +24,7 @@ among_met r k a =
     (λ (e : r.len ≡ 0 → ⊥).
     let h : k < r.start / 4096 + ((r.start + (r.len - 1)) / 4096 - r.start / 4096 + 1) = rw (ne_eqb r.len 0 e) at a.high in
     record { byte = max r.start (k * 4096); within = record { low = omega arith; high = omega arith }; there = omega arith })
-    (equal_or_not r.len 0)
+    (cases_eq r.len 0)
 
 pub blocks_right : BlocksRight
 blocks_right r k = (met_among r k, among_met r k)
@@ -35,4 +35,4 @@ blocks_low r s l =
     ⊎_elim
     (λ (e : r.len ≡ 0). rw (eq-eqb r.len 0 e) (omega arith))
     (λ (e : r.len ≡ 0 → ⊥). rw (ne_eqb r.len 0 e) (omega arith))
-    (equal_or_not r.len 0)
+    (cases_eq r.len 0)

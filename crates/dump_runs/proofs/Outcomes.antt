@@ -10,12 +10,12 @@ use lib.Seq.{drop-cons}
 use Rattle.dump_runs.specs.declared.Run.{Run}
 use Rattle.dump_runs.specs.declared.Comparison.{Comparison}
 use Rattle.dump_runs.specs.declared.Next.{Next}
-use Rattle.dump_runs.specs.declared.Next.TheVariants.{Found, More, PastEnd, TooLong}
+use Rattle.dump_runs.specs.declared.Next.TheVariants.{Found, More}
 use Rattle.dump_runs.specs.Steps.{scan_of}
-use Rattle.dump_runs.specs.Host.{some}
-use Rattle.dump_runs.proofs.Sums.{le_or_lt, equal_or_not}
+use Rattle.dump_runs.proofs.Sums.{le_or_lt}
+use Rattle.std.proofs.lemmas.Bool.{cases_eq}
 use Rattle.dump_runs.proofs.Scans.{turn_differs, turn_equal, turn_closes, turn_stops}
-use Rattle.dump_runs.proofs.Whole.{stretch, runs_from, runs_equal, runs_differ, some_one}
+use Rattle.dump_runs.proofs.Whole.{stretch, some, runs_from, runs_equal, runs_differ, some_one}
 
 -- an equal byte with no run open
 quiet : (s n : ℕ) → n ≡ 0 → (p q : List ℕ) → some (stretch s n) ++ runs_from (s + n + 1) 0 p q ≡ runs_from (s + 1) n p q
@@ -47,8 +47,6 @@ module _ (f g : ℕ) (a b : List ℕ) where
   abbrev pub Outcome : ℕ → ℕ → ℕ → Next → Type 0
   Outcome s n i (Found r j d) = Finds s n i r j d
   Outcome s n i (More d) = Stops s n i d
-  Outcome s n i PastEnd = ⊥
-  Outcome s n i TooLong = ⊥
 
   -- ---- one byte further, with the same runs from there on
   module _ (s n i t m : ℕ) (ha : i < length a) (hb : i < length b) (moves : t + m ≡ s + n + 1)
@@ -80,8 +78,6 @@ module _ (f g : ℕ) (a b : List ℕ) where
           moved = omega arith;
           runs = λ (p q : List ℕ). same p q ∙ o.runs p q;
         }
-    further PastEnd o = o
-    further TooLong o = o
 
   -- ---- the turns
   stops : (s n i : ℕ) → min (length a) (length b) ≤ i → Outcome s n i (scan_of f g s n i (drop i a) (drop i b))
@@ -153,7 +149,7 @@ module _ (f g : ℕ) (a b : List ℕ) where
       (λ (z : 0 < n). closes s n i ha hb x z)
       (le_or_lt n 0))
       (λ (x : get_or a i 0 ≡ get_or b i 0 → ⊥). differs s n i ha hb x (scans k s (n + 1) (i + 1) (omega arith)))
-      (equal_or_not (get_or a i 0) (get_or b i 0)))
+      (cases_eq (get_or a i 0) (get_or b i 0)))
       (le_or_lt (min (length a) (length b)) i)
 
   pub outcome : (s n i : ℕ) → Outcome s n i (scan_of f g s n i (drop i a) (drop i b))

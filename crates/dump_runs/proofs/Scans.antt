@@ -27,6 +27,18 @@ module _ (f g s n i x y : ℕ) (p q : List ℕ) where
   unfolding scan_of
   scan_closes h e = rw (scan_of, eq-eqb x y h, lt-ltb 0 n e)
 
+-- ---- a turn over two lists by their heads and what follows, to the next index j
+module _ (f g s n i j x y : ℕ) (p q r t : List ℕ) (first : p ≡ x ∷ r) (second : q ≡ y ∷ t) (next : j ≡ i + 1) where
+  pub step_differs : (x ≡ y → ⊥) → scan_of f g s n i p q ≡ scan_of f g s (n + 1) j r t
+  step_differs h = rw (first, second, next, add-one n, add-one i) (scan_differs f g s n i x y r t h)
+
+  pub step_equal : x ≡ y → n ≤ 0 → scan_of f g s n i p q ≡ scan_of f g (s + 1) n j r t
+  step_equal h e = rw (first, second, next, add-one s, add-one i) (scan_equal f g s n i x y r t h e)
+
+  pub step_closes : x ≡ y → 0 < n → scan_of f g s n i p q
+      ≡ Found (record { start = s; len = n }) j (record { start = s + n + 1; len = 0; first = f; second = g })
+  step_closes h e = rw (first, second, next, add-one i) (scan_closes f g s n i x y r t h e)
+
 -- ---- where a list has ended
 scan_ended : (f g s n i : ℕ) (p q : List ℕ) → (length p ≡ 0) ⊎ (length q ≡ 0)
     → scan_of f g s n i p q ≡ More (record { start = s; len = n; first = f + length p; second = g + length q })
@@ -36,6 +48,14 @@ scan_ended f g s n i [] q h =
 scan_ended f g s n i (x ∷ p) [] h =
     let e : g ≡ g + 0 = omega arith in ap (λ (k : ℕ). More (record { start = s; len = n; first = f + suc (length p); second = k })) e
 scan_ended f g s n i (x ∷ p) (y ∷ q) h = absurd (⊎_elim (λ (e : suc (length p) ≡ 0). omega arith) (λ (e : suc (length q) ≡ 0). omega arith) h)
+
+-- the same with the lengths as they were computed
+pub step_ends : (f g s n i k m : ℕ) (p q : List ℕ) → (length p ≡ 0) ⊎ (length q ≡ 0) → k ≡ length p → m ≡ length q
+    → scan_of f g s n i p q ≡ More (record { start = s; len = n; first = f + k; second = g + m })
+step_ends f g s n i k m p q h first second = rw (first, second) (scan_ended f g s n i p q h)
+
+-- the turns, for the check
+pub ruleset steps = (step_differs, step_equal, step_ends)
 
 -- ---- the same at an index of two lists
 module _ (f g s n i : ℕ) (a b : List ℕ) where

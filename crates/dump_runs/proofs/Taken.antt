@@ -7,13 +7,14 @@ use mathlib.Core.List.{List, [], ◌∷◌, ◌++◌}
 use native.Mathlib.Omega.{arith}
 use native.Mathlib.Nat.{zero-mul, suc-mul}
 use borrow.Author.Tests.{lt-ltb, le-ltb, lt-leb}
+use Rattle.std.specs.Prelude.{Ok}
 use lib.ListN.{length, take, drop, length-append, length-take, length-drop, take-append-drop}
 use lib.Seq.{take-nil, drop-nil}
 use Rattle.dump_runs.specs.declared.Run.{Run}
 use Rattle.dump_runs.specs.declared.Comparison.{Comparison}
 use Rattle.dump_runs.specs.declared.Next.{Next}
-use Rattle.dump_runs.specs.declared.Next.TheVariants.{Found, More, PastEnd, TooLong}
-use Rattle.dump_runs.specs.Steps.{most, begun, goes_on, next_of}
+use Rattle.dump_runs.specs.declared.Next.TheVariants.{Found, More}
+use Rattle.dump_runs.specs.Steps.{most, begun, goes_on, scan_of, next_of}
 use Rattle.dump_runs.specs.Host.{Parts, firsts, seconds, Asks, found, done, Compares, closed, part, Level, reads}
 use Rattle.dump_runs.proofs.Sums.{le_or_lt}
 use Rattle.dump_runs.proofs.Calls.{call_scans}
@@ -31,14 +32,13 @@ record Able (p : Parts) (i : ℕ) (c : Comparison) : Type 0 where
   short_a : c.start + c.len + c.first + (length p.first - i) < most
   short_b : c.start + c.len + c.second + (length p.second - i) < most
 
-able_outcome : (p : Parts) (i : ℕ) (c : Comparison) → Able p i c
-    → Outcome c.first c.second p.first p.second c.start c.len i (next_of c p.first p.second i)
-able_outcome p i c a =
-    rw (call_scans c p.first p.second i
+able_scans : (p : Parts) (i : ℕ) (c : Comparison) → Able p i c
+    → next_of c p.first p.second i ≡ Ok (scan_of c.first c.second c.start c.len i (drop i p.first) (drop i p.second))
+able_scans p i c a =
+    call_scans c p.first p.second i
     (goes_not c.first (length p.second - i) (λ (z : 0 < c.first). let e : length p.second ≤ i = a.first z in omega arith))
     (goes_not c.second (length p.first - i) (λ (z : 0 < c.second). let e : length p.first ≤ i = a.second z in omega arith))
-    (lt-leb most (c.start + c.len + max (c.first + (length p.first - i)) (c.second + (length p.second - i))) (omega arith)))
-    (outcome c.first c.second p.first p.second c.start c.len i)
+    (lt-leb most (c.start + c.len + max (c.first + (length p.first - i)) (c.second + (length p.second - i))) (omega arith))
 
 able_then : (p : Parts) (i : ℕ) (c : Comparison) (r : Run) (j : ℕ) (d : Comparison) → Able p i c
     → Finds c.first c.second p.first p.second c.start c.len i r j d → Able p j d
@@ -53,23 +53,21 @@ abbrev Asked : Parts → ℕ → Comparison → Type 0
 Asked p i c = (l : List Run) × (d : Comparison) × Asks p i c l d
 
 -- a call by its outcome, with the calls after it
-ask : (p : Parts) (i : ℕ) (c : Comparison) (v : Next) → next_of c p.first p.second i ≡ v
+ask : (p : Parts) (i : ℕ) (c : Comparison) (v : Next) → next_of c p.first p.second i ≡ Ok v
     → Outcome c.first c.second p.first p.second c.start c.len i v
     → ((r : Run) (j : ℕ) (d : Comparison) → Finds c.first c.second p.first p.second c.start c.len i r j d → Asked p j d) → Asked p i c
 ask p i c (Found r j d) h o rest = let t = rest r j d o in (r ∷ t.0, t.1, found h t.2)
 ask p i c (More d) h o rest = ([], d, done h)
-ask p i c PastEnd h o rest = absurd o
-ask p i c TooLong h o rest = absurd o
 
 asks : (p : Parts) (k i : ℕ) (c : Comparison) → length p.first - i ≤ k → Able p i c → Asked p i c
 asks p zero i c h a =
-    ask p i c (next_of c p.first p.second i) refl (able_outcome p i c a)
+    ask p i c _ (able_scans p i c a) (outcome c.first c.second p.first p.second c.start c.len i)
     (λ (r : Run) (j : ℕ) (d : Comparison) (o : Finds c.first c.second p.first p.second c.start c.len i r j d).
     let e : i < j = o.later in
     let f : j ≤ length p.first = o.in_a in
     absurd (omega arith))
 asks p (suc k) i c h a =
-    ask p i c (next_of c p.first p.second i) refl (able_outcome p i c a)
+    ask p i c _ (able_scans p i c a) (outcome c.first c.second p.first p.second c.start c.len i)
     (λ (r : Run) (j : ℕ) (d : Comparison) (o : Finds c.first c.second p.first p.second c.start c.len i r j d).
     let e : i < j = o.later in
     asks p k j d (omega arith) (able_then p i c r j d a o))

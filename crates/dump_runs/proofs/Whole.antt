@@ -12,11 +12,17 @@ use lib.ListN.{length, drop, get_or, drop_of_length-le, length-drop}
 use lib.Seq.{drop-cons}
 use Rattle.dump_runs.specs.declared.Run.{Run}
 use Rattle.dump_runs.specs.Dumps.{Differ, end_of, Within, Common, Tail, In, Ascending, Listed}
-use Rattle.dump_runs.specs.Host.{some}
-use Rattle.dump_runs.proofs.Sums.{le_or_lt, equal_or_not}
+use Rattle.std.specs.Option.{option_to_list}
+use Rattle.dump_runs.specs.Steps.{stretch_of}
+use Rattle.dump_runs.proofs.Sums.{le_or_lt}
+use Rattle.std.proofs.lemmas.Bool.{cases_eq}
 
 abbrev pub stretch : ℕ → ℕ → Run
 stretch s n = record { start = s; len = n }
+
+-- a run as a list: nothing if it has no byte
+abbrev pub some : Run → List Run
+some r = option_to_list (stretch_of r.start r.len)
 
 -- the runs from a place on, where the n bytes from s up to that place differ, and p and q are what the dumps have from there on
 unfoldable pub runs_from : ℕ → ℕ → List ℕ → List ℕ → List Run
@@ -284,7 +290,7 @@ module _ (a b : List ℕ) where
       let f : suc (s + n) ≡ s + suc n = omega arith in
       rw (runs_differ s n x y p q e)
       (runs_from_lem p q s (suc n) (ap (λ (k : ℕ). drop k a) (sym f) ∙ ha.2) (ap (λ (k : ℕ). drop k b) (sym f) ∙ hb.2) (grown s n o ha.0 hb.0 d)))
-      (equal_or_not x y)
+      (cases_eq x y)
 
   all_from : From 0 (runs_from 0 0 a b)
   all_from =

@@ -1,5 +1,6 @@
 -- A host that hands in two dumps in parts, and what it is promised.
-use Rattle.std.specs.Prelude.{ℕ, zero, suc, ◌*◌, ◌≤◌, ◌<◌, ◌≡◌, cond, ◌⊎◌, List, [], ◌∷◌, ◌++◌, eqb, length, take, drop}
+use Rattle.std.specs.Prelude.{ℕ, zero, suc, ◌*◌, ◌≤◌, ◌<◌, ◌≡◌, ◌⊎◌, List, [], ◌∷◌, ◌++◌, length, take, drop, Ok}
+use Rattle.std.specs.Option.{option_to_list}
 use Rattle.dump_runs.specs.declared.Run.{Run}
 use Rattle.dump_runs.specs.declared.Comparison.{Comparison}
 use Rattle.dump_runs.specs.declared.Next.TheVariants.{Found, More}
@@ -20,18 +21,14 @@ abbrev pub seconds : List Parts → List ℕ
 seconds [] = []
 seconds (p ∷ ps) = p.second ++ seconds ps
 
--- a run as a list: nothing if it has no byte
-abbrev pub some : Run → List Run
-some r = cond (eqb r.len 0) [] (r ∷ [])
-
 -- the host asks, from an index of two parts on, until they are done: the runs that it is handed, and the comparison at the end
 pub data Asks (p : Parts) : ℕ → Comparison → List Run → Comparison → Type 0 where
-  found : {i j : ℕ} {c d e : Comparison} {r : Run} {l : List Run} → next_of c p.first p.second i ≡ Found r j d → Asks p j d l e → Asks p i c (r ∷ l) e
-  done : {i : ℕ} {c d : Comparison} → next_of c p.first p.second i ≡ More d → Asks p i c [] d
+  found : {i j : ℕ} {c d e : Comparison} {r : Run} {l : List Run} → next_of c p.first p.second i ≡ Ok (Found r j d) → Asks p j d l e → Asks p i c (r ∷ l) e
+  done : {i : ℕ} {c d : Comparison} → next_of c p.first p.second i ≡ Ok (More d) → Asks p i c [] d
 
 -- the host hands in all the parts, and then takes the open run and the tail: all the runs, in the order in which they came
 pub data Compares : Comparison → List Parts → List Run → Type 0 where
-  closed : {c : Comparison} → Compares c [] (some (open_of c) ++ some (tail_of c))
+  closed : {c : Comparison} → Compares c [] (option_to_list (open_of c) ++ option_to_list (tail_of c))
   part : {c d : Comparison} {p : Parts} {ps : List Parts} {l m : List Run} → Asks p 0 c l d → Compares d ps m → Compares c (p ∷ ps) (l ++ m)
 
 -- parts that may be handed in: two of the same length, until a dump ends, which has nothing after that

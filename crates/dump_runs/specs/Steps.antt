@@ -1,9 +1,11 @@
 -- The comparison as a pure function: what one call does. Host.antt ties it to the list of Dumps.antt.
-use Rattle.std.specs.Prelude.{ℕ, suc, ◌+◌, ◌-◌, min, max, Bool, true, false, cond, ◌&&◌, List, [], ◌∷◌, eqb, leb, ltb, length, drop}
+use Rattle.std.specs.Prelude.{ℕ, suc, ◌+◌, ◌-◌, min, max, Bool, true, false, cond, ◌&&◌, List, [], ◌∷◌, eqb, leb, ltb, length, drop, Option, None, Some, Result, Ok, Err}
 use Rattle.dump_runs.specs.declared.Run.{Run}
 use Rattle.dump_runs.specs.declared.Comparison.{Comparison}
 use Rattle.dump_runs.specs.declared.Next.{Next}
-use Rattle.dump_runs.specs.declared.Next.TheVariants.{Found, More, PastEnd, TooLong}
+use Rattle.dump_runs.specs.declared.Next.TheVariants.{Found, More}
+use Rattle.dump_runs.specs.declared.DumpError.{DumpError}
+use Rattle.dump_runs.specs.declared.DumpError.TheVariants.{PastEnd, TooLong}
 
 -- 2^64 - 1: both dumps must be shorter
 abbrev pub most : ℕ
@@ -34,16 +36,20 @@ scan_of first second start len i (x ∷ p) (y ∷ q) =
     ]
 
 -- a call
-unfoldable pub next_of : Comparison → List ℕ → List ℕ → ℕ → Next
+unfoldable pub next_of : Comparison → List ℕ → List ℕ → ℕ → Result Next DumpError
 next_of c a b from =
-    cond (goes_on c.first (length b - from)) PastEnd
-    (cond (goes_on c.second (length a - from)) PastEnd
-    (cond (too_long c (length a - from) (length b - from)) TooLong
-    (scan_of c.first c.second c.start c.len from (drop from a) (drop from b))))
+    cond (goes_on c.first (length b - from)) (Err PastEnd)
+    (cond (goes_on c.second (length a - from)) (Err PastEnd)
+    (cond (too_long c (length a - from) (length b - from)) (Err TooLong)
+    (Ok (scan_of c.first c.second c.start c.len from (drop from a) (drop from b)))))
+
+-- the run of some bytes; nothing if there are none
+abbrev pub stretch_of : ℕ → ℕ → Option Run
+stretch_of start len = cond (eqb len 0) None (Some (record { start = start; len = len }))
 
 -- what is left when both dumps have ended
-abbrev pub open_of : Comparison → Run
-open_of c = record { start = c.start; len = c.len }
+abbrev pub open_of : Comparison → Option Run
+open_of c = stretch_of c.start c.len
 
-abbrev pub tail_of : Comparison → Run
-tail_of c = record { start = min (c.start + c.len) most; len = min (c.first + c.second) most }
+abbrev pub tail_of : Comparison → Option Run
+tail_of c = stretch_of (min (c.start + c.len) most) (min (c.first + c.second) most)

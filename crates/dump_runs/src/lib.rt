@@ -1,19 +1,23 @@
 // The differing runs of two dumps that come in parts, one run at a time, and the blocks that a run meets.
 #![tactic(auto)]
 
-ghost use Rattle.std.specs.Prelude.{◌≡◌, ◌+◌, ◌-◌, ◌<◌, min, max, length, drop};
+ghost use Rattle.std.specs.Prelude.{◌≡◌, ◌+◌, ◌<◌, ◌^◌, length, drop};
 ghost use Rattle.dump_runs.specs.Blocks.{blocks_of};
-ghost use Rattle.dump_runs.specs.Steps.{most, begun, goes_on, too_long, scan_of, next_of, open_of, tail_of};
+ghost use Rattle.dump_runs.specs.Steps.{most, begun, goes_on, too_long, scan_of, next_of, stretch_of, open_of, tail_of};
 
-// A stretch of bytes. Length 0: none.
-#[derive(Clone, Copy)]
+use std::error::Error;
+use std::fmt;
+use std::fmt::{Display, Formatter};
+
+// A stretch of bytes.
+#[derive(Clone, Copy, Debug, PartialEq, Eq)]
 pub struct Run {
     pub start: u64,
     pub len: u64,
 }
 
 // The blocks from first on, so many of them.
-#[derive(Clone, Copy)]
+#[derive(Clone, Copy, Debug, PartialEq, Eq)]
 pub struct Blocks {
     pub first: u64,
     pub count: u64,
@@ -21,7 +25,8 @@ pub struct Blocks {
 
 // How far two dumps are compared: the run that is open at the end of what both had, with the bytes that it has so far, and
 // how many bytes the first and the second dump had past that.
-#[derive(Clone, Copy)]
+// With len 0 no run is open, and start is no option beside it: it still says how far both were compared.
+#[derive(Clone, Copy, Debug, PartialEq, Eq)]
 pub struct Comparison {
     pub start: u64,
     pub len: u64,
@@ -30,7 +35,7 @@ pub struct Comparison {
 }
 
 // What comes next in two parts.
-#[derive(Clone, Copy)]
+#[derive(Clone, Copy, Debug, PartialEq, Eq)]
 pub enum Next {
     // A run has ended: ask again, in the same parts, from next on.
     Found {
@@ -40,81 +45,81 @@ pub enum Next {
     },
     // The parts are done: hand in the ones that follow.
     More(Comparison),
+}
+
+// Why two parts are refused.
+#[derive(Clone, Copy, Debug, PartialEq, Eq)]
+pub enum DumpError {
     // A dump goes on that had ended before the other.
     PastEnd,
     // A dump has 2^64 - 1 bytes or more.
     TooLong,
 }
 
-// A sum, or the largest number.
-fn plus(a: u64, b: u64) -> u64
-    ensures { result ≡ min (a + b) most }
-{
-    if a <= u64::MAX - b { a + b } else { u64::MAX }
+impl Display for DumpError {
+    fn fmt<W: fmt::Write>(&self, f: &mut Formatter<W>) -> fmt::Result {
+        f.write_str(match self {
+            DumpError::PastEnd => "a dump goes on that had ended before the other",
+            DumpError::TooLong => "a dump has 2^64 - 1 bytes or more",
+        })
+    }
 }
 
-fn longer(a: u64, b: u64) -> u64
-    ensures { result ≡ max a b }
+impl Error for DumpError {}
+
+// The run of some bytes; nothing if there are none.
+fn stretch(start: u64, len: u64) -> Option<Run>
+    ensures { result ≡ stretch_of start len }
 {
-    if a <= b { b } else { a }
+    (len != 0).then_some(Run { start, len })
 }
 
-fn shorter(a: usize, b: usize) -> usize
-    ensures { result ≡ min a b }
+// What a part has from an index on; nothing past its end.
+fn rest(part: &[u8], from: usize) -> &[u8]
+    ensures { result.now ≡ drop from part.now }
 {
-    if a <= b { a } else { b }
-}
-
-// How many of n bytes are left from an index on.
-fn left(n: usize, from: usize) -> u64
-    ensures { result ≡ n - from }
-{
-    if from <= n { (n - from) as u64 } else { 0 }
+    part.get(from..).unwrap_or_default()
 }
 
 // Whether a dump that the other passed before has bytes again.
 fn goes_on(passed: u64, rest: u64) -> bool
     ensures { result ≡ goes_on passed rest }
 {
-    if 0 < passed { 0 < rest } else { false }
+    0 < passed && 0 < rest
 }
 
-// Goes along both parts to the first run that ends, or to the end of the shorter part.
-fn scan(c: Comparison, a: &[u8], b: &[u8], from: usize) -> Next
-    requires from_bound { c.start + c.len + c.first + (length a.now - from) < most }
-    requires from_bound_2 { c.start + c.len + c.second + (length b.now - from) < most }
-    ensures { result ≡ scan_of c.first c.second c.start c.len from (drop from a.now) (drop from b.now) }
+// Goes along what both parts have from an index on, to the first run that ends or to the end of the shorter one.
+#[tactic(auto, using(crate::proofs::Scans::steps))]
+fn scan(c: Comparison, p: &[u8], q: &[u8], from: usize) -> Next
+    requires short_first { c.start + c.len + c.first + length p.now < most }
+    requires short_second { c.start + c.len + c.second + length q.now < most }
+    requires in_part { from + length p.now < 2 ^ 64 }
+    ensures { result ≡ scan_of c.first c.second c.start c.len from p.now q.now }
 {
-    let end = shorter(a.len(), b.len());
     let mut start = c.start;
     let mut len = c.len;
-    let mut i = from;
-    while i < end {
-        if a[i] != b[i] {
+    for (i, (x, y)) in p.iter().zip(q).enumerate() {
+        if x != y {
             len += 1;
-            i += 1;
-            continue;
-        }
-        if 0 < len {
+        } else if 0 < len {
             return Next::Found {
                 run: Run { start, len },
-                next: i + 1,
+                next: from + i + 1,
                 then: Comparison {
                     start: start + len + 1,
                     len: 0,
-                    first: c.first,
-                    second: c.second,
+                    ..c
                 },
             };
+        } else {
+            start += 1;
         }
-        start += 1;
-        i += 1;
     }
     Next::More(Comparison {
         start,
         len,
-        first: c.first + left(a.len(), i),
-        second: c.second + left(b.len(), i),
+        first: c.first + p.len().saturating_sub(q.len()) as u64,
+        second: c.second + q.len().saturating_sub(p.len()) as u64,
     })
 }
 
@@ -135,47 +140,45 @@ impl Comparison {
     fn is_long(self, p: u64, q: u64) -> bool
         ensures { result ≡ too_long self p q }
     {
-        let both = plus(self.start, self.len);
-        u64::MAX <= plus(both, longer(plus(self.first, p), plus(self.second, q)))
+        let past = self
+            .first
+            .saturating_add(p)
+            .max(self.second.saturating_add(q));
+        u64::MAX <= self.start.saturating_add(self.len).saturating_add(past)
     }
 
     // The next run that ends in the parts, from an index on. A host hands in the two dumps in parts, and asks from index 0 on for the
     // runs of each two. The parts may be of any lengths, but up to the end of the shorter dump two of them must have the same.
-    pub fn next_run(self, a: &[u8], b: &[u8], from: usize) -> Next
+    #[tactic(auto, unfolding(crate::specs::Steps::next_of))]
+    pub fn next_run(self, a: &[u8], b: &[u8], from: usize) -> Result<Next, DumpError>
         ensures { result ≡ next_of self a.now b.now from }
     {
-        let p = left(a.len(), from);
-        let q = left(b.len(), from);
-        if goes_on(self.first, q) {
-            return Next::PastEnd;
+        let p = rest(a, from);
+        let q = rest(b, from);
+        if goes_on(self.first, q.len() as u64) || goes_on(self.second, p.len() as u64) {
+            return Err(DumpError::PastEnd);
         }
-        if goes_on(self.second, p) {
-            return Next::PastEnd;
+        if self.is_long(p.len() as u64, q.len() as u64) {
+            return Err(DumpError::TooLong);
         }
-        if self.is_long(p, q) {
-            return Next::TooLong;
-        }
-        scan(self, a, b, from)
+        Ok(scan(self, p, q, from))
     }
 
     // When both dumps have ended: the run that is open.
-    pub fn open_run(self) -> Run
+    pub fn open_run(self) -> Option<Run>
         ensures { result ≡ open_of self }
     {
-        Run {
-            start: self.start,
-            len: self.len,
-        }
+        stretch(self.start, self.len)
     }
 
     // When both dumps have ended: what the longer one has past the other.
-    pub fn tail(self) -> Run
+    pub fn tail(self) -> Option<Run>
         ensures { result ≡ tail_of self }
     {
-        Run {
-            start: plus(self.start, self.len),
-            len: plus(self.first, self.second),
-        }
+        stretch(
+            self.start.saturating_add(self.len),
+            self.first.saturating_add(self.second),
+        )
     }
 }
 

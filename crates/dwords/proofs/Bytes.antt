@@ -1,27 +1,18 @@
 -- Laws of bytes, dwords and bit fields.
-use mathlib.Core.Path.{◌≡◌, refl, sym}
+use mathlib.Core.Path.{◌≡◌}
 use mathlib.Core.List.{List, [], ◌∷◌}
-use Prim.Native.Nat.{ℕ, zero, suc, ◌+◌, ◌-◌, ◌*◌, ◌/◌, ◌^◌, ◌≤◌, ◌<◌}
-use native.Mathlib.Nat.{mod-lt, not-suc-le-zero, le_of_suc-le-suc}
-use lib.ListN.{length, get_or, get_or-eq_default}
+use Prim.Native.Nat.{ℕ, zero, suc, ◌+◌, ◌-◌, ◌*◌, ◌/◌, ◌^◌, ◌<◌}
+use native.Mathlib.Nat.{mod-lt}
+use lib.ListN.{length, get_or}
 use lib.Pow.{pow_pos}
 use native.Mathlib.Omega.{arith}
+use Rattle.std.proofs.lemmas.List.{get_or_default}
 use Rattle.dwords.specs.Dwords.{byte_at, le32, dword, bits}
 
--- inside a list every default reads the same
-pub any_default : (l : List ℕ) (i d e : ℕ) → i < length l → get_or l i d ≡ get_or l i e
-any_default [] i d e h = absurd (not-suc-le-zero h)
-any_default (x ∷ l) zero d e h = refl
-any_default (x ∷ l) (suc i) d e h = any_default l i d e (le_of_suc-le-suc h)
-
--- a byte that is there, and one that is not
+-- a byte that is there
 pub byte_in : (l : List ℕ) (i : ℕ) → i < length l → get_or l i 0 ≡ byte_at l i
 unfolding byte_at
-byte_in l i h = any_default l i 0 255 h
-
-pub byte_out : (l : List ℕ) (i : ℕ) → length l ≤ i → 255 ≡ byte_at l i
-unfolding byte_at
-byte_out l i h = sym (get_or-eq_default l 255 h)
+byte_in l i h = get_or_default l i 0 255 h
 
 -- a field is below its width's bound
 pub bits_below : (d hi lo : ℕ) → bits d hi lo < 2 ^ (hi - lo + 1)

@@ -1,14 +1,13 @@
 -- Worked examples, computed by the definitions.
-use Rattle.std.proofs.Common.{◌≡◌, ℕ, ◌+◌, false, List, [], ◌∷◌, refl}
+use Rattle.std.proofs.Common.{◌≡◌, ℕ, ◌+◌, Err, None, List, [], ◌∷◌, refl}
 use Rattle.erase_plan.specs.declared.EraseType.{EraseType}
 use Rattle.erase_plan.specs.declared.EraseEntry.{EraseEntry}
-use Rattle.erase_plan.specs.declared.SpanCheck.TheVariants.{Bad}
 use Rattle.erase_plan.specs.Plan.{block_base, block_end, cover, beats, chosen_from, chosen, entry_from, entry_at, next_pos, plan_in, plan}
 use Rattle.erase_plan.specs.Span.{span_start, span_end, span_check, sectors_check}
 
 -- a type and an entry of no known time
 abbrev pub untimed : ℕ → ℕ → EraseType
-untimed size opcode = record { size = size; opcode = opcode; timed = false; time = 0 }
+untimed size opcode = record { size = size; opcode = opcode; time = None }
 
 abbrev pub erase : ℕ → ℕ → ℕ → EraseEntry
 erase opcode size base = entry_from (untimed size opcode) base
@@ -59,6 +58,6 @@ small_large_small = refl
 abbrev pub sectors : List EraseType
 sectors = untimed 4096 0x20 ∷ untimed 32768 0x52 ∷ untimed 65536 0xD8 ∷ []
 
-pub refused_below : sectors_check sectors 4096 61440 ≡ Bad 4096
+pub refused_below : sectors_check sectors 4096 61440 ≡ Err 4096
 unfolding sectors_check span_check span_start span_end plan plan_in next_pos entry_at chosen chosen_from beats cover block_base block_end
 refused_below = refl

@@ -1,6 +1,5 @@
 -- Types and ranges that meet what the laws of a plan ask for.
-use Rattle.std.proofs.Common.{◌≡◌, ℕ, ◌+◌, [], ◌∷◌, refl, inl, inr, arith}
-use Rattle.erase_plan.specs.declared.SpanCheck.TheVariants.{Fits}
+use Rattle.std.proofs.Common.{◌≡◌, ℕ, ◌+◌, [], ◌∷◌, refl, inl, inr, arith, Ok}
 use Rattle.erase_plan.specs.Plan.{block_base, block_end, cover, beats, chosen_from, chosen, entry_at, next_pos, plan_in, plan}
 use Rattle.erase_plan.specs.Span.{span_start, span_end, span_check, sectors_check}
 use Rattle.erase_plan.specs.Words.{Each}
@@ -50,7 +49,7 @@ pub small_direct : direct small 8 200 ≡ plan small 8 200
 small_direct = direct_is_plan small (inl small_powers) 8 200
 
 -- a whole block is accepted by `erase_sectors`
-pub block_accepted : sectors_check sectors 0 65536 ≡ Fits
+pub block_accepted : sectors_check sectors 0 65536 ≡ Ok tt
 unfolding sectors_check span_check span_start span_end plan plan_in next_pos entry_at chosen chosen_from beats cover block_base block_end
 block_accepted = refl
 

@@ -1,12 +1,14 @@
 -- The order of types, and sorting.
-use Rattle.std.proofs.Common.{◌≡◌, ℕ, suc, ◌+◌, ◌<◌, ◌≤◌, Bool, true, false, cond, eqb, ◌⊎◌, List, [], ◌∷◌, ◌++◌, length, sym, refl, ap, ◌∙◌, inl, inr, ⊎_elim, arith, le-ltb, lt-ltb, eq-eqb, ne_eqb, le-leb}
+use Rattle.std.proofs.Common.{◌≡◌, ℕ, suc, ◌+◌, ◌<◌, ◌≤◌, Bool, true, false, cond, eqb, ◌⊎◌, List, [], ◌∷◌, ◌++◌, flat_map, length, take, get_or, append-nil, sym, refl, ap, ◌∙◌, inl, inr, ⊎_elim, arith, le-ltb, lt-ltb, eq-eqb, ne_eqb, le-leb}
+use Rattle.std.proofs.lemmas.List.{take_more}
+use Rattle.std.proofs.lemmas.List.Concat.{flat_map-append}
 use borrow.Author.Tests.{eqb-false, lt-leb}
 use Rattle.erase_plan.specs.declared.EraseType.{EraseType}
 use Rattle.erase_plan.specs.declared.EraseTypes.{EraseTypes}
 use Rattle.erase_plan.specs.Types.{kept, present, time_rank, in_order, insert, sort}
 use Rattle.erase_plan.specs.Words.{Each}
 use Rattle.erase_plan.specs.Good.{Present, Sorted, how_many}
-use Rattle.erase_plan.proofs.Lists.{lt_or_le, by_cond, no_true, each_append, each_map}
+use Rattle.erase_plan.proofs.Lists.{lt_or_le, by_cond, no_true, each_append, each_split, each_map}
 
 -- ---- a slot is empty or holds a type
 pub kept_none : (t : EraseType) → t.size ≡ 0 → kept t ≡ []
@@ -22,16 +24,27 @@ unfolding kept
 kept_present t =
     by_cond (Each Present) (eqb t.size 0) [] (t ∷ []) (λ _. tt) (λ e. (omega (arith, eqb-false t.size 0 e), tt))
 
+-- what holds of each type of some slots holds of what each slot holds, and the other way round
+pub each_kept : (P : EraseType → Type 0) (l : List EraseType) → Each (λ (t : EraseType). Each P (kept t)) l → Each P (flat_map kept l)
+each_kept P [] p = tt
+each_kept P (t ∷ l) p = each_append P (kept t) (flat_map kept l) p.0 (each_kept P l p.1)
+
+pub kept_each : (P : EraseType → Type 0) (l : List EraseType) → Each P (flat_map kept l) → Each (λ (t : EraseType). Each P (kept t)) l
+kept_each P [] p = tt
+kept_each P (t ∷ l) p = let r = each_split P (kept t) (flat_map kept l) p in (r.0, kept_each P l r.1)
+
+pub kept_present_all : (l : List EraseType) → Each Present (flat_map kept l)
+kept_present_all [] = tt
+kept_present_all (t ∷ l) = each_append Present (kept t) (flat_map kept l) (kept_present t) (kept_present_all l)
+
+-- one slot more
+pub kept_more : (l : List EraseType) (i : ℕ) (d : EraseType) → i < length l
+    → flat_map kept (take (i + 1) l) ≡ flat_map kept (take i l) ++ kept (get_or l i d)
+kept_more l i d h = rw (take_more l i d h, flat_map-append, append-nil)
+
 pub present_present : (ts : EraseTypes) → Each Present (present ts)
 unfolding present
-present_present ts =
-    let two : Each Present (kept ts.t1 ++ kept ts.t2) = both ts.t1 ts.t2 in
-    each_append Present (kept ts.t1 ++ kept ts.t2 ++ kept ts.t3) (kept ts.t4)
-    (each_append Present (kept ts.t1 ++ kept ts.t2) (kept ts.t3) two (kept_present ts.t3))
-    (kept_present ts.t4)
-  where
-    both : (t u : EraseType) → Each Present (kept t ++ kept u)
-    both t u = each_append Present (kept t) (kept u) (kept_present t) (kept_present u)
+present_present ts = kept_present_all ts.slots
 
 -- ---- inserting and sorting keep what is there
 pub insert_each : (P : EraseType → Type 0) (t : EraseType) (l : List EraseType) → P t → Each P l → Each P (insert t l)

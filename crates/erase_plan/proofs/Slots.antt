@@ -1,146 +1,97 @@
 -- The four slots: a type put in its place, and what they hold.
-use Rattle.std.proofs.Common.{◌≡◌, ◌≤◌, Bool, true, false, ◌||◌, eqb, List, [], ◌∷◌, ◌++◌, length, get_or, drop, sym, refl, ap, subst, append_assoc, append-nil, arith, length-append, ne_eqb}
+use Rattle.std.proofs.Common.{◌≡◌, ℕ, zero, suc, ◌+◌, ◌<◌, ◌≤◌, Bool, true, false, cond, ◌||◌, eqb, List, [], ◌∷◌, ◌++◌, flat_map, length, get_or, set, take, drop, sym, refl, ap, ◌∙◌, ⊎_elim, append_assoc, append-nil, arith, length-append, ne_eqb}
+use lib.Seq.{drop-set-lt}
+use Rattle.std.proofs.lemmas.List.{take_all, drop_all, take_more, take_more_set, drop_more, set-get_or}
 use Rattle.erase_plan.specs.declared.EraseType.{EraseType}
 use Rattle.erase_plan.specs.declared.EraseTypes.{EraseTypes}
 use Rattle.erase_plan.specs.Types.{no_type, kept, present, in_order, insert, sort, slots, four_of, sorted_of}
 use Rattle.erase_plan.specs.Words.{Each}
-use Rattle.erase_plan.specs.Good.{Present}
-use Rattle.erase_plan.proofs.Lists.{by_cond, no_false}
-use Rattle.erase_plan.proofs.Ordering.{kept_none, kept_one, present_present, sort_each, sort_length}
+use Rattle.erase_plan.specs.Good.{Present, Sorted}
+use Rattle.erase_plan.proofs.Lists.{by_cond}
+use Rattle.std.proofs.lemmas.Bool.{cases_Bool}
+use Rattle.erase_plan.proofs.Ordering.{kept_none, kept_one, present_present, sort_each, sort_sorted, sort_length}
 
--- ---- where a type goes among those of a list: before the first element, or after it
--- the slot is empty, or the order allows t before what it holds
+-- ---- a type put among slots: it goes before the first that is empty or that the order allows, and each slot from there on moves one further
 abbrev pub goes : EraseType → EraseType → Bool
 goes t u = eqb u.size 0 || in_order t u
 
-insert_here : (t : EraseType) (l : List EraseType) → Each Present l → goes t (get_or l 0 no_type) ≡ true → insert t l ≡ t ∷ l
+unfoldable pub put : EraseType → List EraseType → List EraseType
+put t [] = []
+put t (u ∷ us) = cond (goes t u) (t ∷ put u us) (u ∷ put t us)
+
+-- one slot further: a type goes there, or the slot stays as it is
+module _ (t : EraseType) (l : List EraseType) (i : ℕ) (h : i < length l) where
+  pub put_taken : goes t (get_or l i no_type) ≡ true
+      → take (i + 1) (set l i t) ++ put (get_or l i no_type) (drop (i + 1) (set l i t)) ≡ take i l ++ put t (drop i l)
+  unfolding put
+  put_taken e =
+      rw (take_more_set l i t h, drop_more l i no_type h, drop-set-lt (i + 1) l i t (omega arith), e)
+      (append_assoc (take i l) (t ∷ []) (put (get_or l i no_type) (drop (i + 1) l)))
+
+  pub put_passed : goes t (get_or l i no_type) ≡ false
+      → take (i + 1) (set l i (get_or l i no_type)) ++ put t (drop (i + 1) (set l i (get_or l i no_type))) ≡ take i l ++ put t (drop i l)
+  unfolding put
+  put_passed e =
+      rw (set-get_or l i no_type, take_more l i no_type h, drop_more l i no_type h, e)
+      (append_assoc (take i l) (get_or l i no_type ∷ []) (put t (drop (i + 1) l)))
+
+pub put_all : (t : EraseType) (l : List EraseType) (i : ℕ) → length l ≤ i → take i l ++ put t (drop i l) ≡ l
+unfolding put
+put_all t l i h = rw (take_all i l h, drop_all i l h) (append-nil l)
+
+-- so many slots, with the types of a list, the missing ones last
+unfoldable pub padded : ℕ → List EraseType → List EraseType
+padded zero l = []
+padded (suc n) [] = no_type ∷ padded n []
+padded (suc n) (t ∷ l) = t ∷ padded n l
+
+slots_padded : (l : List EraseType) → (slots l).slots ≡ padded 4 l
+unfolding slots padded
+slots_padded [] = refl
+slots_padded (a ∷ []) = refl
+slots_padded (a ∷ b ∷ []) = refl
+slots_padded (a ∷ b ∷ c ∷ []) = refl
+slots_padded (a ∷ b ∷ c ∷ d ∷ l) = refl
+
+put_empty : (n : ℕ) → put no_type (padded n []) ≡ padded n []
+unfolding put padded
+put_empty zero = refl
+put_empty (suc n) = ap (λ (l : List EraseType). no_type ∷ l) (put_empty n)
+
+-- a type that stands before a sorted list stays there
+insert_first : (u : EraseType) (us : List EraseType) → Sorted (u ∷ us) → insert u us ≡ u ∷ us
 unfolding insert
-insert_here t [] p h = refl
-insert_here t (u ∷ us) p h =
-    let n : eqb u.size 0 ≡ false = ne_eqb u.size 0 (λ e. omega (arith, p.0)) in
-    let o : in_order t u ≡ true = rw n at h in
-    rw o
+insert_first u [] s = refl
+insert_first u (v ∷ us) s = rw s.0.0
 
-insert_later : (t : EraseType) (l : List EraseType) → goes t (get_or l 0 no_type) ≡ false
-    → insert t l ≡ get_or l 0 no_type ∷ insert t (drop 1 l)
-unfolding insert
-insert_later t [] h = no_false h
-insert_later t (u ∷ us) h = rw (or_right (eqb u.size 0) (in_order t u) h)
-  where
-    or_right : (a b : Bool) → (a || b) ≡ false → b ≡ false
-    or_right true b h = no_false h
-    or_right false b h = h
-
-module _ (t : EraseType) where
-  slots_here : (l : List EraseType) → Each Present l → goes t (get_or l 0 no_type) ≡ true
-      → four_of t (get_or l 0 no_type) (get_or l 1 no_type) (get_or l 2 no_type) ≡ slots (insert t l)
-  unfolding slots
-  slots_here l p h = rw (insert_here t l p h)
-
-  -- the slots after the first are those of what is left
-  shift : (l : List EraseType) → goes t (get_or l 0 no_type) ≡ false → (a b c d : EraseType)
-      → four_of a b c d ≡ slots (insert t (drop 1 l)) → four_of (get_or l 0 no_type) a b c ≡ slots (insert t l)
-  unfolding slots
-  shift l h a b c d e =
-      let x : a ≡ get_or (insert t (drop 1 l)) 0 no_type = ap (λ (s : EraseTypes). s.t1) e in
-      let y : b ≡ get_or (insert t (drop 1 l)) 1 no_type = ap (λ (s : EraseTypes). s.t2) e in
-      let z : c ≡ get_or (insert t (drop 1 l)) 2 no_type = ap (λ (s : EraseTypes). s.t3) e in
-      rw (insert_later t l h, x, y, z)
-
-  first_kept : (l : List EraseType) → goes t (get_or l 0 no_type) ≡ false
-      → four_of (get_or l 0 no_type) (get_or (insert t l) 1 no_type) (get_or (insert t l) 2 no_type) (get_or (insert t l) 3 no_type) ≡ slots (insert t l)
-  unfolding slots
-  first_kept l h =
-      let e : get_or (insert t l) 0 no_type ≡ get_or l 0 no_type = ap (λ (x : List EraseType). get_or x 0 no_type) (insert_later t l h) in
-      ap (λ (x : EraseType). four_of x (get_or (insert t l) 1 no_type) (get_or (insert t l) 2 no_type) (get_or (insert t l) 3 no_type)) (sym e)
-
-  -- past an empty slot there is nothing to pass
-  none : {A : Type 0} → goes t no_type ≡ false → A
-  none h = no_false h
-
-  slots_second : (l : List EraseType) → Each Present l → goes t (get_or l 0 no_type) ≡ false → goes t (get_or l 1 no_type) ≡ true
-      → four_of (get_or l 0 no_type) t (get_or l 1 no_type) (get_or l 2 no_type) ≡ slots (insert t l)
-  slots_second [] p h k = none h
-  slots_second (u ∷ us) p h k = shift (u ∷ us) h _ _ _ _ (slots_here us p.1 k)
-
-  slots_third : (l : List EraseType) → Each Present l → goes t (get_or l 0 no_type) ≡ false → goes t (get_or l 1 no_type) ≡ false
-      → goes t (get_or l 2 no_type) ≡ true → four_of (get_or l 0 no_type) (get_or l 1 no_type) t (get_or l 2 no_type) ≡ slots (insert t l)
-  slots_third [] p h k m = none h
-  slots_third (u ∷ us) p h k m = shift (u ∷ us) h _ _ _ _ (slots_second us p.1 k m)
-
-  slots_fourth : (l : List EraseType) → Each Present l → goes t (get_or l 0 no_type) ≡ false → goes t (get_or l 1 no_type) ≡ false
-      → goes t (get_or l 2 no_type) ≡ false → goes t (get_or l 3 no_type) ≡ true
-      → four_of (get_or l 0 no_type) (get_or l 1 no_type) (get_or l 2 no_type) t ≡ slots (insert t l)
-  slots_fourth [] p h k m n = none h
-  slots_fourth (u ∷ us) p h k m n = shift (u ∷ us) h _ _ _ _ (slots_third us p.1 k m n)
-
-  two_kept : (l : List EraseType) → goes t (get_or l 0 no_type) ≡ false → goes t (get_or l 1 no_type) ≡ false
-      → (c : EraseType) × (d : EraseType) × (four_of (get_or l 0 no_type) (get_or l 1 no_type) c d ≡ slots (insert t l))
-  two_kept [] h k = none h
-  two_kept (u ∷ us) h k = (_, _, shift (u ∷ us) h _ _ _ _ (first_kept us k))
-
-  three_kept : (l : List EraseType) → goes t (get_or l 0 no_type) ≡ false → goes t (get_or l 1 no_type) ≡ false → goes t (get_or l 2 no_type) ≡ false
-      → (d : EraseType) × (four_of (get_or l 0 no_type) (get_or l 1 no_type) (get_or l 2 no_type) d ≡ slots (insert t l))
-  three_kept [] h k m = none h
-  three_kept (u ∷ us) h k m = let r = two_kept us k m in (r.0, shift (u ∷ us) h _ _ _ _ r.2)
-
-  slots_past : (l : List EraseType) → goes t (get_or l 0 no_type) ≡ false → goes t (get_or l 1 no_type) ≡ false
-      → goes t (get_or l 2 no_type) ≡ false → goes t (get_or l 3 no_type) ≡ false → slots l ≡ slots (insert t l)
-  unfolding slots
-  slots_past [] h k m n = none h
-  slots_past (u ∷ us) h k m n = let r = three_kept us k m n in shift (u ∷ us) h _ _ _ _ r.1
+put_padded : (n : ℕ) (t : EraseType) (l : List EraseType) → Each Present l → Sorted l → put t (padded n l) ≡ padded n (insert t l)
+unfolding put padded insert
+put_padded zero t l p s = refl
+put_padded (suc n) t [] p s = ap (λ (l : List EraseType). t ∷ l) (put_empty n)
+put_padded (suc n) t (u ∷ us) p s =
+    let n0 : eqb u.size 0 ≡ false = ne_eqb u.size 0 (λ e. omega (arith, p.0)) in
+    ⊎_elim
+    (λ (o : in_order t u ≡ true).
+    let q : put u (padded n us) ≡ padded n (u ∷ us) = put_padded n u us p.1 s.1 ∙ ap (padded n) (insert_first u us s) in
+    rw (n0, o) (ap (λ (l : List EraseType). t ∷ l) q))
+    (λ (o : in_order t u ≡ false). rw (n0, o) (ap (λ (l : List EraseType). u ∷ l) (put_padded n t us p.1 s.1)))
+    (cases_Bool (in_order t u))
 
 -- ---- where the slots are a sorted list, a type put in its place makes them the list sorted with it
 pub put_none : (t : EraseType) (l : List EraseType) → t.size ≡ 0 → slots (sort l) ≡ slots (sort (kept t ++ l))
 put_none t l z = rw (kept_none t z)
 
-module _ (t : EraseType) (l : List EraseType) (z : t.size ≡ 0 → ⊥) (p : Each Present l) where
-  sort_put : sort (kept t ++ l) ≡ insert t (sort l)
-  unfolding sort
-  sort_put = rw (kept_one t z)
-
-  pub put_first : (ts : EraseTypes) → ts ≡ slots (sort l) → goes t ts.t1 ≡ true
-      → four_of t ts.t1 ts.t2 ts.t3 ≡ slots (sort (kept t ++ l))
-  unfolding slots
-  put_first ts e =
-      subst (λ (s : EraseTypes). goes t s.t1 ≡ true → four_of t s.t1 s.t2 s.t3 ≡ slots (sort (kept t ++ l))) (sym e)
-      (λ h. rw sort_put (slots_here t (sort l) (sort_each Present l p) h))
-
-  pub put_second : (ts : EraseTypes) → ts ≡ slots (sort l) → goes t ts.t1 ≡ false → goes t ts.t2 ≡ true
-      → four_of ts.t1 t ts.t2 ts.t3 ≡ slots (sort (kept t ++ l))
-  unfolding slots
-  put_second ts e =
-      subst (λ (s : EraseTypes). goes t s.t1 ≡ false → goes t s.t2 ≡ true → four_of s.t1 t s.t2 s.t3 ≡ slots (sort (kept t ++ l))) (sym e)
-      (λ h k. rw sort_put (slots_second t (sort l) (sort_each Present l p) h k))
-
-  pub put_third : (ts : EraseTypes) → ts ≡ slots (sort l) → goes t ts.t1 ≡ false → goes t ts.t2 ≡ false → goes t ts.t3 ≡ true
-      → four_of ts.t1 ts.t2 t ts.t3 ≡ slots (sort (kept t ++ l))
-  unfolding slots
-  put_third ts e =
-      subst (λ (s : EraseTypes). goes t s.t1 ≡ false → goes t s.t2 ≡ false → goes t s.t3 ≡ true
-      → four_of s.t1 s.t2 t s.t3 ≡ slots (sort (kept t ++ l))) (sym e)
-      (λ h k m. rw sort_put (slots_third t (sort l) (sort_each Present l p) h k m))
-
-  pub put_fourth : (ts : EraseTypes) → ts ≡ slots (sort l) → goes t ts.t1 ≡ false → goes t ts.t2 ≡ false → goes t ts.t3 ≡ false
-      → goes t ts.t4 ≡ true → four_of ts.t1 ts.t2 ts.t3 t ≡ slots (sort (kept t ++ l))
-  unfolding slots
-  put_fourth ts e =
-      subst (λ (s : EraseTypes). goes t s.t1 ≡ false → goes t s.t2 ≡ false → goes t s.t3 ≡ false → goes t s.t4 ≡ true
-      → four_of s.t1 s.t2 s.t3 t ≡ slots (sort (kept t ++ l))) (sym e)
-      (λ h k m n. rw sort_put (slots_fourth t (sort l) (sort_each Present l p) h k m n))
-
-  pub put_past : (ts : EraseTypes) → ts ≡ slots (sort l) → goes t ts.t1 ≡ false → goes t ts.t2 ≡ false → goes t ts.t3 ≡ false
-      → goes t ts.t4 ≡ false → ts ≡ slots (sort (kept t ++ l))
-  unfolding slots
-  put_past ts e =
-      subst (λ (s : EraseTypes). goes t s.t1 ≡ false → goes t s.t2 ≡ false → goes t s.t3 ≡ false → goes t s.t4 ≡ false
-      → s ≡ slots (sort (kept t ++ l))) (sym e)
-      (λ h k m n. rw sort_put (slots_past t (sort l) h k m n))
-
--- ---- four slots, one put in after the other
-pub sorted_puts : (a b c d : EraseType) → sorted_of a b c d ≡ slots (sort (kept a ++ (kept b ++ (kept c ++ (kept d ++ [])))))
-unfolding sorted_of present
-sorted_puts a b c d = simp (append_assoc, append-nil)
+pub put_one : (t : EraseType) (l : List EraseType) → (t.size ≡ 0 → ⊥) → Each Present l → (ts : EraseTypes) → ts ≡ slots (sort l)
+    → ◌≡◌ {A = EraseTypes} (record { slots = put t ts.slots }) (slots (sort (kept t ++ l)))
+unfolding sort
+put_one t l z p ts e =
+    let r : put t ts.slots ≡ (slots (insert t (sort l))).slots =
+    rw e (ap (put t) (slots_padded (sort l)) ∙ put_padded 4 t (sort l) (sort_each Present l p) (sort_sorted l) ∙ sym (slots_padded (insert t (sort l)))) in
+    let k : sort (kept t ++ l) ≡ insert t (sort l) = rw (kept_one t z) in
+    ap (λ (x : List EraseType). make x) r ∙ ap slots (sym k)
+  where
+    make : List EraseType → EraseTypes
+    make x = record { slots = x }
 
 pub slots_none : four_of no_type no_type no_type no_type ≡ slots (sort [])
 unfolding slots sort
@@ -166,10 +117,13 @@ kept_length : (t : EraseType) → length (kept t) ≤ 1
 unfolding kept
 kept_length t = by_cond (λ (l : List EraseType). length l ≤ 1) (eqb t.size 0) [] (t ∷ []) (λ _. omega arith) (λ _. omega arith)
 
-pub present_length : (ts : EraseTypes) → length (present ts) ≤ 4
+all_length : (l : List EraseType) → length (flat_map kept l) ≤ length l
+all_length [] = omega arith
+all_length (t ∷ l) = omega (arith, length-append (kept t) (flat_map kept l), kept_length t, all_length l)
+
+pub present_length : (ts : EraseTypes) → length (present ts) ≤ length ts.slots
 unfolding present
-present_length ts =
-    simp length-append (omega (arith, kept_length ts.t1, kept_length ts.t2, kept_length ts.t3, kept_length ts.t4))
+present_length ts = all_length ts.slots
 
 -- the types of sorted slots are the types of the slots, sorted
 pub sorted_present : (a b c d : EraseType) → present (sorted_of a b c d) ≡ sort (present (four_of a b c d))

@@ -1,7 +1,6 @@
 -- The check of a span before sectors are erased.
-use Rattle.std.proofs.Common.{◌≡◌, ℕ, ◌+◌, ◌-◌, ◌%◌, ◌^◌, ◌<◌, ◌≤◌, List, refl, ◌∙◌, ⊎_elim, arith, le-ltb, lt-ltb}
+use Rattle.std.proofs.Common.{◌≡◌, ℕ, ◌+◌, ◌-◌, ◌%◌, ◌^◌, ◌<◌, ◌≤◌, Result, Ok, Err, List, refl, ◌∙◌, ⊎_elim, arith, le-ltb, lt-ltb}
 use Rattle.erase_plan.specs.declared.EraseType.{EraseType}
-use Rattle.erase_plan.specs.declared.SpanCheck.TheVariants.{Fits, Bad}
 use Rattle.erase_plan.specs.Plan.{plan}
 use Rattle.erase_plan.specs.Span.{span_start, span_end, survey_of, span_check, sectors_check}
 use Rattle.erase_plan.specs.Good.{Kinds, Good}
@@ -14,27 +13,27 @@ wraps a n = omega arith
 
 -- a span that starts in the range and ends past it
 pub ends_past : (address len from to r : ℕ) → address ≤ from → address < to → len < to - address → r ≡ (address + len % 4294967296) % 2 ^ 32
-    → Bad r ≡ span_check address len from to
+    → Err r ≡ span_check address len from to
 unfolding span_check
 ends_past address len from to r h k m e =
     let q : r ≡ (address + len) % 4294967296 = e ∙ wraps address len in
     rw (le-ltb from address h, lt-ltb (address + len) to (omega arith), q)
 
 -- a span that starts below the address
-pub starts_below : (address len from to : ℕ) → from < address → Bad address ≡ span_check address len from to
+pub starts_below : (address len from to : ℕ) → from < address → Err address ≡ span_check address len from to
 unfolding span_check
 starts_below address len from to h = rw (lt-ltb from address h)
 
 -- a span that lies in the range
-pub lies_inside : (address len from to : ℕ) → address ≤ from → to ≤ address + len → Fits ≡ span_check address len from to
+pub lies_inside : (address len from to : ℕ) → address ≤ from → to ≤ address + len → Ok tt ≡ span_check address len from to
 unfolding span_check
 lies_inside address len from to h k = rw (le-ltb from address h, le-ltb (address + len) to k)
 
-clash : {A : Type 0} (n : ℕ) → Bad n ≡ Fits → A
-clash n e = let z : ◌≡◌ {A = ℕ} 0 1 = cc in absurd (omega arith)
+clash : {A : Type 0} (n : ℕ) → ◌≡◌ {A = Result (Unit {0}) ℕ} (Err n) (Ok tt) → A
+clash n e = cc
 
 -- a span is accepted only where it lies in the range
-pub fits_inside : (address len from to : ℕ) → span_check address len from to ≡ Fits → (address ≤ from) × (to ≤ address + len)
+pub fits_inside : (address len from to : ℕ) → span_check address len from to ≡ Ok tt → (address ≤ from) × (to ≤ address + len)
 fits_inside address len from to h =
     ⊎_elim (λ (k : from < address). clash address (starts_below address len from to k ∙ h))
     (λ (k : address ≤ from). ⊎_elim
@@ -51,7 +50,7 @@ unfolding survey_of sectors_check
 sectors_survey ts address len last e = rw e
 
 -- where `erase_sectors` is not refused the span is the range
-pub sectors_exact : (L : ℕ) (ts : List EraseType) → Kinds L ts → (address len : ℕ) → 0 < len → sectors_check ts address len ≡ Fits
+pub sectors_exact : (L : ℕ) (ts : List EraseType) → Kinds L ts → (address len : ℕ) → 0 < len → sectors_check ts address len ≡ Ok tt
     → (span_start (plan ts address (address + len)) ≡ address) × (span_end (plan ts address (address + len)) ≡ address + len)
 unfolding sectors_check
 sectors_exact L ts K address len h e =

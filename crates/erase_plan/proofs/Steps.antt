@@ -1,9 +1,8 @@
 -- A plan is its first entry and the plan from there on.
-use Rattle.std.proofs.Common.{◌≡◌, ℕ, zero, suc, ◌+◌, ◌-◌, ◌<◌, ◌≤◌, List, [], ◌∷◌, sym, refl, ap, ◌∙◌, ap₂, ⊎_elim, arith, le-ltb, lt-ltb}
+use Rattle.std.proofs.Common.{◌≡◌, ℕ, zero, suc, ◌+◌, ◌-◌, ◌<◌, ◌≤◌, Option, Some, None, List, [], ◌∷◌, sym, refl, ap, ◌∙◌, ap₂, ⊎_elim, arith, le-ltb, lt-ltb}
 use Rattle.erase_plan.specs.declared.EraseType.{EraseType}
 use Rattle.erase_plan.specs.declared.EraseEntry.{EraseEntry}
-use Rattle.erase_plan.specs.declared.Next.{Next}
-use Rattle.erase_plan.specs.declared.Next.TheVariants.{Nothing, Entry}
+use Rattle.erase_plan.specs.declared.NextEntry.{NextEntry}
 use Rattle.erase_plan.specs.Plan.{chosen, entry_at, next_pos, plan_in, plan, next_of}
 use Rattle.erase_plan.specs.Words.{Each}
 use Rattle.erase_plan.specs.Good.{Present}
@@ -72,67 +71,79 @@ plan_more t ts p pos end h =
     (plan_ends t ts p (end - pos) (next_pos (t ∷ ts) pos end) end (omega (arith, next_more t ts p pos end h)))
 
 -- ---- the next entry, with its last wanted byte
+abbrev pub ending : EraseEntry → ℕ → NextEntry
+ending e s = record { entry = e; stop = s }
+
 pub next_some : (t : EraseType) (ts : List EraseType) (pos end : ℕ) → pos < end
-    → next_of (t ∷ ts) pos end ≡ Entry (entry_at (t ∷ ts) pos end) (next_pos (t ∷ ts) pos end - 1)
+    → next_of (t ∷ ts) pos end ≡ Some (ending (entry_at (t ∷ ts) pos end) (next_pos (t ∷ ts) pos end - 1))
 unfolding next_of
 next_some t ts pos end h = rw (lt-ltb pos end h)
 
-pub next_done : (ts : List EraseType) (pos end : ℕ) → end ≤ pos → next_of ts pos end ≡ Nothing
+pub next_done : (ts : List EraseType) (pos end : ℕ) → end ≤ pos → next_of ts pos end ≡ None
 unfolding next_of
 next_done [] pos end h = refl
 next_done (t ∷ ts) pos end h = rw (le-ltb pos end h)
 
-pub next_none : (pos end : ℕ) → next_of [] pos end ≡ Nothing
+pub next_none : (pos end : ℕ) → next_of [] pos end ≡ None
 unfolding next_of
 next_none pos end = refl
 
 -- what an entry found says
-pub record Found (ts : List EraseType) (pos end : ℕ) (e : EraseEntry) (stop : ℕ) : Type 0 where
+pub record Found (ts : List EraseType) (pos end : ℕ) (n : NextEntry) : Type 0 where
   pub wanted : pos < end
   pub first : EraseType
   pub others : List EraseType
   pub are : ts ≡ first ∷ others
-  pub entry : e ≡ entry_at ts pos end
-  pub last : stop ≡ next_pos ts pos end - 1
+  pub entry : n.entry ≡ entry_at ts pos end
+  pub last : n.stop ≡ next_pos ts pos end - 1
 
 -- there is an entry or there is none
-pub not_both : {A : Type 0} (o : Next) (e : EraseEntry) (s : ℕ) → o ≡ Entry e s → o ≡ Nothing → A
-not_both o e s p q = let z : ◌≡◌ {A = ℕ} 0 1 = cc in absurd (omega arith)
+pub not_both : {A : Type 0} (o : Option NextEntry) (n : NextEntry) → o ≡ Some n → o ≡ None → A
+not_both o n p q = cc
 
-pub found : (ts : List EraseType) (pos end : ℕ) (e : EraseEntry) (s : ℕ) → next_of ts pos end ≡ Entry e s → Found ts pos end e s
-found [] pos end e s h = not_both (next_of [] pos end) e s h (next_none pos end)
-found (t ∷ ts) pos end e s h =
+pub found : (ts : List EraseType) (pos end : ℕ) (n : NextEntry) → next_of ts pos end ≡ Some n → Found ts pos end n
+found [] pos end n h = not_both (next_of [] pos end) n h (next_none pos end)
+found (t ∷ ts) pos end n h =
     ⊎_elim
-    (λ (l : pos < end). let q = sym h ∙ next_some t ts pos end l in record { wanted = l; first = t; others = ts; are = refl; entry = cc; last = cc })
-    (λ (l : end ≤ pos). not_both (next_of (t ∷ ts) pos end) e s h (next_done (t ∷ ts) pos end l))
+    (λ (l : pos < end).
+    let q : n ≡ ending (entry_at (t ∷ ts) pos end) (next_pos (t ∷ ts) pos end - 1) = cc (sym h ∙ next_some t ts pos end l) in
+    record {
+      wanted = l;
+      first = t;
+      others = ts;
+      are = refl;
+      entry = ap (λ (x : NextEntry). x.entry) q;
+      last = ap (λ (x : NextEntry). x.stop) q;
+    })
+    (λ (l : end ≤ pos). not_both (next_of (t ∷ ts) pos end) n h (next_done (t ∷ ts) pos end l))
     (lt_or_le pos end)
 
 -- where there is no next entry the plan is over
-pub plan_nothing : (ts : List EraseType) (pos end : ℕ) → next_of ts pos end ≡ Nothing → plan ts pos end ≡ []
+pub plan_nothing : (ts : List EraseType) (pos end : ℕ) → next_of ts pos end ≡ None → plan ts pos end ≡ []
 plan_nothing [] pos end h = plan_none pos end
 plan_nothing (t ∷ ts) pos end h =
     ⊎_elim
-    (λ (l : pos < end). not_both (next_of (t ∷ ts) pos end) (entry_at (t ∷ ts) pos end) (next_pos (t ∷ ts) pos end - 1) (next_some t ts pos end l) h)
+    (λ (l : pos < end). not_both (next_of (t ∷ ts) pos end) _ (next_some t ts pos end l) h)
     (λ (l : end ≤ pos). plan_done (t ∷ ts) pos end l)
     (lt_or_le pos end)
 
 -- where there is one, the plan is that entry and the plan from past its last wanted byte, which lies in the range
-pub record Unrolled (ts : List EraseType) (pos end : ℕ) (e : EraseEntry) (stop : ℕ) : Type 0 where
-  pub after : pos ≤ stop
-  pub within : stop < end
-  pub unrolls : plan ts pos end ≡ e ∷ plan ts (stop + 1) end
+pub record Unrolled (ts : List EraseType) (pos end : ℕ) (n : NextEntry) : Type 0 where
+  pub after : pos ≤ n.stop
+  pub within : n.stop < end
+  pub unrolls : plan ts pos end ≡ n.entry ∷ plan ts (n.stop + 1) end
 
-pub plan_entry : (ts : List EraseType) → Each Present ts → (pos end : ℕ) (e : EraseEntry) (s : ℕ) → next_of ts pos end ≡ Entry e s → Unrolled ts pos end e s
-plan_entry [] p pos end e s h = not_both (next_of [] pos end) e s h (next_none pos end)
-plan_entry (t ∷ ts) p pos end e s h =
-    let f : Found (t ∷ ts) pos end e s = found (t ∷ ts) pos end e s h in
+pub plan_entry : (ts : List EraseType) → Each Present ts → (pos end : ℕ) (n : NextEntry) → next_of ts pos end ≡ Some n → Unrolled ts pos end n
+plan_entry [] p pos end n h = not_both (next_of [] pos end) n h (next_none pos end)
+plan_entry (t ∷ ts) p pos end n h =
+    let f : Found (t ∷ ts) pos end n = found (t ∷ ts) pos end n h in
     let m : pos < next_pos (t ∷ ts) pos end = next_more t ts p pos end f.wanted in
     let w : next_pos (t ∷ ts) pos end ≤ end = next_within t ts p pos end f.wanted in
-    let n : next_pos (t ∷ ts) pos end ≡ s + 1 = omega (arith, f.last) in
+    let k : next_pos (t ∷ ts) pos end ≡ n.stop + 1 = omega (arith, f.last) in
     record {
       after = omega (arith, f.last);
       within = omega (arith, f.last);
-      unrolls = plan_more t ts p pos end f.wanted ∙ ap₂ (λ (x : EraseEntry) (y : ℕ). x ∷ plan (t ∷ ts) y end) (sym f.entry) n;
+      unrolls = plan_more t ts p pos end f.wanted ∙ ap₂ (λ (x : EraseEntry) (y : ℕ). x ∷ plan (t ∷ ts) y end) (sym f.entry) k;
     }
 
 -- the plan is over exactly at the last byte

@@ -6,4 +6,3 @@ pub mod Later
 pub mod Direct
 pub mod Good
 pub mod Marks
-pub mod Passing

@@ -1,9 +1,8 @@
 -- The plan: which blocks are erased so that a range is erased. A range is its first position and its end, one past its last.
-use Rattle.std.specs.Prelude.{ℕ, zero, suc, ◌+◌, ◌-◌, ◌*◌, ◌/◌, min, Bool, true, false, cond, ◌&&◌, ◌||◌, List, [], ◌∷◌, ◌==◌, nat_lt}
+use Rattle.std.specs.Prelude.{ℕ, zero, suc, ◌+◌, ◌-◌, ◌*◌, ◌/◌, min, Bool, true, false, cond, ◌&&◌, ◌||◌, Option, Some, None, is_some, unwrap_or, List, [], ◌∷◌, ◌==◌, nat_lt}
 use Rattle.erase_plan.specs.declared.EraseType.{EraseType}
 use Rattle.erase_plan.specs.declared.EraseEntry.{EraseEntry}
-use Rattle.erase_plan.specs.declared.Next.{Next}
-use Rattle.erase_plan.specs.declared.Next.TheVariants.{Nothing, Entry}
+use Rattle.erase_plan.specs.declared.NextEntry.{NextEntry}
 use Rattle.erase_plan.specs.Types.{no_type}
 
 -- the aligned block of a size that holds a position: its base and its end
@@ -33,7 +32,7 @@ chosen (t ∷ ts) pos end = chosen_from t ts pos end
 
 -- an entry is opcode, size, base and typical time, with a mark whether that is known
 abbrev pub entry_from : EraseType → ℕ → EraseEntry
-entry_from t base = record { opcode = t.opcode; timed = cond t.timed 1 0; size = t.size; base = base; time = t.time }
+entry_from t base = record { opcode = t.opcode; timed = cond (is_some t.time) 1 0; size = t.size; base = base; time = unwrap_or t.time 0 }
 
 -- the plan's entry at a position
 unfoldable pub entry_at : List EraseType → ℕ → ℕ → EraseEntry
@@ -54,6 +53,7 @@ plan [] pos end = []
 plan (t ∷ ts) pos end = plan_in (end - pos) (t ∷ ts) pos end
 
 -- the first entry of a plan with the last wanted byte that it covers, if there is one
-unfoldable pub next_of : List EraseType → ℕ → ℕ → Next
-next_of [] pos end = Nothing
-next_of (t ∷ ts) pos end = cond (nat_lt pos end) (Entry (entry_at (t ∷ ts) pos end) (next_pos (t ∷ ts) pos end - 1)) Nothing
+unfoldable pub next_of : List EraseType → ℕ → ℕ → Option NextEntry
+next_of [] pos end = None
+next_of (t ∷ ts) pos end =
+    cond (nat_lt pos end) (Some (record { entry = entry_at (t ∷ ts) pos end; stop = next_pos (t ∷ ts) pos end - 1 })) None

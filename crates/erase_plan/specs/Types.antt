@@ -1,11 +1,11 @@
 -- The available erase types and their order.
-use Rattle.std.specs.Prelude.{ℕ, ◌+◌, Bool, true, false, cond, List, [], ◌∷◌, ◌++◌, ◌==◌, nat_le, nat_lt, slice_index_or}
+use Rattle.std.specs.Prelude.{ℕ, ◌+◌, Bool, true, false, cond, Option, Some, None, List, [], ◌∷◌, ◌==◌, flat_map, nat_le, nat_lt, slice_index_or}
 use Rattle.erase_plan.specs.declared.EraseType.{EraseType}
 use Rattle.erase_plan.specs.declared.EraseTypes.{EraseTypes}
 
 -- a slot that holds no type
 abbrev pub no_type : EraseType
-no_type = record { size = 0; opcode = 0; timed = false; time = 0 }
+no_type = record { size = 0; opcode = 0; time = None }
 
 -- a slot as a list: its type, or none where the size is 0
 unfoldable pub kept : EraseType → List EraseType
@@ -13,11 +13,15 @@ kept t = cond (t.size == 0) [] (t ∷ [])
 
 -- the available types
 unfoldable pub present : EraseTypes → List EraseType
-present ts = kept ts.t1 ++ kept ts.t2 ++ kept ts.t3 ++ kept ts.t4
+present ts = flat_map kept ts.slots
 
 -- a time as a number to sort by, an absent one first
+abbrev pub rank_of : Option ℕ → ℕ
+rank_of None = 0
+rank_of (Some time) = time + 1
+
 unfoldable pub time_rank : EraseType → ℕ
-time_rank t = cond t.timed (t.time + 1) 0
+time_rank t = rank_of t.time
 
 -- the smaller of two numbers decides; where they are equal, what follows does
 abbrev pub first_by : ℕ → ℕ → Bool → Bool
@@ -37,13 +41,13 @@ unfoldable pub sort : List EraseType → List EraseType
 sort [] = []
 sort (t ∷ ts) = insert t (sort ts)
 
--- the first four of a list as slots, the missing ones last
-unfoldable pub slots : List EraseType → EraseTypes
-slots ts = record { t1 = slice_index_or ts 0 no_type; t2 = slice_index_or ts 1 no_type; t3 = slice_index_or ts 2 no_type; t4 = slice_index_or ts 3 no_type }
-
 -- four slots, as they come
 abbrev pub four_of : EraseType → EraseType → EraseType → EraseType → EraseTypes
-four_of a b c d = record { t1 = a; t2 = b; t3 = c; t4 = d }
+four_of a b c d = record { slots = a ∷ b ∷ c ∷ d ∷ [] }
+
+-- the first four of a list as slots, the missing ones last
+unfoldable pub slots : List EraseType → EraseTypes
+slots ts = four_of (slice_index_or ts 0 no_type) (slice_index_or ts 1 no_type) (slice_index_or ts 2 no_type) (slice_index_or ts 3 no_type)
 
 -- four slots in any order, sorted
 unfoldable pub sorted_of : EraseType → EraseType → EraseType → EraseType → EraseTypes

@@ -1,4 +1,5 @@
 -- The exports follow the scripts: their bytes are the packed session of the driver by value, and their records tell what it tells.
+use Rattle.std.proofs.Common.{Result, Ok, Err, Option, Some, None}
 use mathlib.Core.Path.{◌≡◌, refl, sym, ap, ◌∙◌, subst}
 use mathlib.Core.Bool.{Bool, true, false, cond, not, ◌&&◌}
 use mathlib.Core.Logic.{◌⊎◌, ⊎_elim}
@@ -8,8 +9,8 @@ use native.Mathlib.Omega.{arith}
 use lib.Dec.{eqb, ltb}
 use lib.ListN.{length, take, length-take}
 use borrow.Author.Tests.{le-ltb, eq-eqb, ltb-true, ltb-false}
-use Rattle.settings.specs.declared.SetAnswer.{SetAnswer}
-use Rattle.settings.specs.declared.SetAnswer.TheVariants.{Set, BadSetting}
+use Rattle.settings.specs.declared.Settings.{Settings}
+use Rattle.settings.specs.declared.SettingError.{SettingError}
 use Rattle.erase_plan.specs.Good.{Each}
 use Rattle.erase_plan.proofs.Lists.{by_cond, no_true}
 use Rattle.commands.specs.declared.Answer.{Answer}
@@ -39,10 +40,8 @@ use Rattle.on_part.proofs.Resting.{is_answer, told_rests, told_runs, told_ends}
 use Rattle.on_part.proofs.BetweenSteps.{ended_step, short_step, step_needs}
 use Rattle.on_part.proofs.BetweenStarts.{start_runs}
 use Rattle.on_part.proofs.Serving.{begun}
-use Rattle.moss_flash.specs.declared.Unpacked.{Unpacked}
-use Rattle.moss_flash.specs.declared.Unpacked.TheVariants.{Held, Bad}
-use Rattle.moss_flash.specs.declared.Opened.{Opened}
-use Rattle.moss_flash.specs.declared.Opened.TheVariants.{Open, Refused}
+use Rattle.moss_flash.specs.declared.Refusal.{Refusal}
+use Rattle.moss_flash.specs.declared.Refusal.TheVariants as Refusals
 use Rattle.moss_flash.specs.Records.{number_a, number_b, event_over}
 use Rattle.moss_flash.specs.Calls.{Called, called, took, unpack_of, opened_of, opened_start, opening, starting, number_in, new_of, set_called}
 use Rattle.driver.specs.Driver.{Told, sends, answers, Back, Driver, Turn, Starts, Steps, Sets, Asks, Seen, Stand, call, next, reached, sees, shown, first, Now, scripts, OfBytes, Typed}
@@ -56,26 +55,26 @@ use Rattle.exported.proofs.Widths.{Fine, waits_fine}
 use Rattle.exported.proofs.Decoding.{decodes}
 
 -- ---- the bytes of a whole session hold it
-pub unpacks : (s : Session) → Whole s → unpack_of (bytes_of s) ≡ Held s
+pub unpacks : (s : Session) → Whole s → unpack_of (bytes_of s) ≡ Some s
 unfolding unpack_of
 unpacks s h =
     let back : session_in (bytes_of s) ≡ s = way_back s h.typed in
     let same : same_list (bytes_of s) (bytes_of s) ≡ true = subst (λ (z : Session). same_list (bytes_of s) (bytes_of z) ≡ true) back (packed_is_same s h.typed) in
-    ap (λ (z : Session). cond (rule_of z && same_list (bytes_of s) (bytes_of z)) (Held z) Bad) back ∙ rw (h.ruled, same)
+    ap (λ (z : Session). cond (rule_of z && same_list (bytes_of s) (bytes_of z)) (Some z) None) back ∙ rw (h.ruled, same)
 
 put_packs : (s x : Session) → put_over x (bytes_of s) ≡ bytes_of x
 put_packs s x = ap (λ (b : Bool). cond b (bytes_of x) (bytes_of s)) (eq-eqb _ _ (sized s))
 
 module _ (s : Session) (w : Whole s) (e : List ℕ) (long : 64 ≤ length e) where
-  pub opened : opened_of (bytes_of s) (length e) ≡ Open s
+  pub opened : opened_of (bytes_of s) (length e) ≡ Ok s
   unfolding opened_of
-  opened = ap (λ (u : Unpacked). opening u (length e)) (unpacks s w) ∙ ap (λ (b : Bool). cond b (Refused 11) (Open s)) (le-ltb (length e) 64 long)
+  opened = ap (λ (u : Option Session). opening u (length e)) (unpacks s w) ∙ ap (λ (b : Bool). cond b (Err Refusals.NoRoom) (Ok s)) (le-ltb (length e) 64 long)
 
-  started : opened_start (bytes_of s) (length e) ≡ Open s
+  started : opened_start (bytes_of s) (length e) ≡ Ok s
   unfolding opened_start
   started =
-      ap (λ (u : Unpacked). starting u (length e)) (unpacks s w)
-      ∙ ap (λ (b : Bool). cond b (cond (not (is_ended s.phase)) (Refused 13) (Refused 11)) (Open s)) (le-ltb (length e) 64 long)
+      ap (λ (u : Option Session). starting u (length e)) (unpacks s w)
+      ∙ ap (λ (b : Bool). cond b (cond (not (is_ended s.phase)) (Err Refusals.BadSession) (Err Refusals.NoRoom)) (Ok s)) (le-ltb (length e) 64 long)
 
 -- ---- what a call hands back fits its record
 abbrev Good : Event → List ℕ → Type 0
@@ -152,10 +151,10 @@ set_said y = answers (record { result = number_in y.event; kind = number_in y.ev
 record Says (y : Stepped) : Type 0 where
   is : set_said y ≡ in_numbers (told_by y.event [])
 
-setting_says : (s : Session) (a : SetAnswer) → Says (setting s a)
+setting_says : (s : Session) (a : Result Settings SettingError) → Says (setting s a)
 unfolding setting unless_runs number_in number_a number_b
-setting_says s (Set x) = by_cond Says (is_ended s.phase) _ _ (λ t. record { is = refl }) (λ t. record { is = refl })
-setting_says s BadSetting = by_cond Says (is_ended s.phase) _ _ (λ t. record { is = refl }) (λ t. record { is = refl })
+setting_says s (Ok x) = by_cond Says (is_ended s.phase) _ _ (λ t. record { is = refl }) (λ t. record { is = refl })
+setting_says s (Err e) = by_cond Says (is_ended s.phase) _ _ (λ t. record { is = refl }) (λ t. record { is = refl })
 
 set_says : (x : Setter) (s : Session) → set_said (setter_of x s) ≡ in_numbers (told_by (setter_of x s).event [])
 set_says x s = (setting_says s (tried x s.settings)).is
@@ -166,9 +165,9 @@ packed y = record { held = bytes_of y.held; told = in_numbers y.told; room = y.r
 
 module _ (e : List ℕ) (long : 64 ≤ length e) where
   open_called : (s : Session) (room : List ℕ) (f : Session → Taken) → Good (f s).out.event (f s).room
-      → back_in (called (Open s) (bytes_of s) e room f) ≡ packed (back_of (f s))
+      → back_in (called (Ok s) (bytes_of s) e room f) ≡ packed (back_of (f s))
   open_called s room f g =
-      ap (λ (z : List ℕ). record { held = z; told = told_in (called (Open s) (bytes_of s) e room f); room = (f s).room }) (put_packs s (f s).out.session)
+      ap (λ (z : List ℕ). record { held = z; told = told_in (called (Ok s) (bytes_of s) e room f); room = (f s).room }) (put_packs s (f s).out.session)
       ∙ ap (λ (z : Told Numbers). record { held = bytes_of (f s).out.session; told = z; room = (f s).room })
       (decodes (put_over (f s).out.session (bytes_of s)) (f s).room (f s).out.event e long g)
 
@@ -179,18 +178,18 @@ module _ (e : List ℕ) (long : 64 ≤ length e) where
     calls_packed : (t : Turn) → Typed t → call (exports e) t (record { held = bytes_of s; buffer = buffer }) ≡ packed (stand t)
     unfolding number_in
     calls_packed (Starts c l k) h =
-        ap (λ (o : Opened). back_in (called o (bytes_of s) e (take k l) (λ z. start_of c z (take k l)))) (started s q.whole e long)
+        ap (λ (o : Result Session Refusal). back_in (called o (bytes_of s) e (take k l) (λ z. start_of c z (take k l)))) (started s q.whole e long)
         ∙ open_called s (take k l) (λ z. start_of c z (take k l)) (start_good c s (take k l) q.whole)
     calls_packed (Steps f r k) h =
-        ap (λ (o : Opened). back_in (called o (bytes_of s) e (take k buffer) (λ z. step_of z f r (take k buffer)))) (opened s q.whole e long)
+        ap (λ (o : Result Session Refusal). back_in (called o (bytes_of s) e (take k buffer) (λ z. step_of z f r (take k buffer)))) (opened s q.whole e long)
         ∙ open_called s (take k buffer) (λ z. step_of z f r (take k buffer))
         (step_good s q.whole f r (take k buffer) (h.reply f r k refl) (take_bytes k buffer q.bytes))
     calls_packed (Sets x) h =
-        ap (λ (u : Unpacked). set_back (set_called u (bytes_of s) (λ z. setter_of x z))) (unpacks s q.whole)
+        ap (λ (u : Option Session). set_back (set_called u (bytes_of s) (λ z. setter_of x z))) (unpacks s q.whole)
         ∙ ap (λ (z : List ℕ). record { held = z; told = set_said (setter_of x s); room = [] }) (put_packs s (setter_of x s).session)
         ∙ ap (λ (z : Told Numbers). record { held = bytes_of (setter_of x s).session; told = z; room = [] }) (set_says x s)
     calls_packed Asks h =
-        ap (λ (o : Opened). record { held = bytes_of s; told = told_in (called o (bytes_of s) e buffer (λ z. took (told z) buffer)); room = buffer }) (opened s q.whole e long)
+        ap (λ (o : Result Session Refusal). record { held = bytes_of s; told = told_in (called o (bytes_of s) e buffer (λ z. took (told z) buffer)); room = buffer }) (opened s q.whole e long)
         ∙ ap (λ (z : Told Numbers). record { held = bytes_of s; told = z; room = buffer })
         (decodes (put_over (told s).session (bytes_of s)) buffer (told s).event e long (told_good s q.whole buffer (enough q.state)))
         ∙ ap (λ (z : Session). record { held = bytes_of z; told = in_numbers (told_by (told s).event buffer); room = buffer }) (sym (told_session s))

@@ -1,4 +1,5 @@
 -- What C reads from the records of a plan is the plan.
+use Rattle.std.proofs.Common.{Result, Ok, Err, is_some}
 use mathlib.Core.Path.{◌≡◌, refl, sym, ap, ◌∙◌, subst}
 use mathlib.Core.Bool.{Bool, true, false, cond}
 use mathlib.Core.List.{List, [], ◌∷◌, ◌++◌, append_assoc}
@@ -15,17 +16,18 @@ use Rattle.erase_plan.specs.Good.{Each}
 use Rattle.erase_plan.specs.Plan.{block_base, chosen, entry_at}
 use Rattle.erase_plan.proofs.Planned.{plan_each}
 use Rattle.plans.specs.declared.PlanQuery.{PlanQuery}
+use Rattle.plans.specs.declared.PlanError.{PlanError}
+use Rattle.plans.specs.declared.PlanError.TheVariants.{InvalidAddress, NoEraseInstruction, NoRoom}
 use Rattle.plans.specs.Planned.{types_for, plan_for, planned_of}
 use Rattle.flash.specs.declared.Session.{Session}
 use Rattle.flash.specs.Waits.{types_of}
 use Rattle.flash.specs.Starts.{fresh}
 use Rattle.packed.specs.Numbers.{bytes}
 use Rattle.rule.specs.Kept.{Whole}
-use Rattle.moss_flash.specs.declared.Opened.{Opened}
-use Rattle.moss_flash.specs.declared.Opened.TheVariants.{Open}
+use Rattle.moss_flash.specs.declared.Refusal.{Refusal}
 use Rattle.moss_flash.specs.Records.{low_first}
 use Rattle.moss_flash.specs.Calls.{Called, opened_of}
-use Rattle.moss_flash.specs.Plans.{query_of, entry_bytes, records_of, plan_over, plan_called}
+use Rattle.moss_flash.specs.Plans.{query_of, entry_bytes, records_of, fitted, plan_head, plan_over, plan_called}
 use Rattle.driver.specs.Driver.{Turn, Typed, first, reached}
 use Rattle.driver.specs.Demand3.{after}
 use Rattle.exported.specs.Exports.{number_at, exports}
@@ -76,7 +78,7 @@ unfolding entry_at block_base
 entry_fits s w pos end h =
     let c : Narrow (chosen (types_of s) pos end) = chosen_narrow (types_of s) pos end (types_narrow s w) in
     let below : pos / (chosen (types_of s) pos end).size * (chosen (types_of s) pos end).size ≤ pos = div-mul-le_self pos (chosen (types_of s) pos end).size in
-    record { opcode = c.opcode; timed = mark (chosen (types_of s) pos end).timed; size = c.size; base = omega (arith, below, h); time = c.time }
+    record { opcode = c.opcode; timed = mark (is_some (chosen (types_of s) pos end).time); size = c.size; base = omega (arith, below, h); time = c.time }
   where
     mark : (b : Bool) → cond b 1 0 < 256
     mark true = omega arith
@@ -87,26 +89,32 @@ unfolding plan_for types_for
 plan_fits s w a n h = plan_each Fits (types_of s) a (a + n) (λ q l m. entry_fits s w q (a + n) (omega (arith, m, h)))
 
 -- only an accepted range has a plan
-refused : (q : PlanQuery) (k : ℕ) → accepted_range q.settings q.address q.length ≡ false → (planned_of q k).number ≡ 5
+refused : (q : PlanQuery) (k : ℕ) → accepted_range q.settings q.address q.length ≡ false → plan_head (planned_of q k) ≡ 5
 unfolding planned_of check_address_length
 refused q k e = rw e
 
-accepted : (q : PlanQuery) (k : ℕ) → (planned_of q k).number ≡ 0 → accepted_range q.settings q.address q.length ≡ true
+accepted : (q : PlanQuery) (k : ℕ) → plan_head (planned_of q k) ≡ 0 → accepted_range q.settings q.address q.length ≡ true
 accepted q k h = by (accepted_range q.settings q.address q.length) refl
   where
     by : (b : Bool) → accepted_range q.settings q.address q.length ≡ b → accepted_range q.settings q.address q.length ≡ true
     by true e = e
     by false e = let z : ◌≡◌ {A = ℕ} 5 0 = sym (refused q k e) ∙ h in absurd (omega (arith, z))
 
-over_plan : (q : PlanQuery) (l : List ℕ) → (planned_of q (length l / 16)).number ≡ 0 → plan_over q l ≡ records_of (plan_for q) ++ drop (16 * length (plan_for q)) l
+over_plan : (q : PlanQuery) (l : List ℕ) → plan_head (planned_of q (length l / 16)) ≡ 0 → plan_over q l ≡ records_of (plan_for q) ++ drop (16 * length (plan_for q)) l
 unfolding plan_over
-over_plan q l h = ap (λ (b : Bool). cond b (records_of (plan_for q) ++ drop (16 * length (plan_for q)) l) l) (eq-eqb _ 0 h)
+over_plan q l = by (planned_of q (length l / 16))
+  where
+    by : (r : Result ℕ PlanError) → plan_head r ≡ 0 → fitted r (records_of (plan_for q) ++ drop (16 * length (plan_for q)) l) l ≡ records_of (plan_for q) ++ drop (16 * length (plan_for q)) l
+    by (Ok n) h = refl
+    by (Err (InvalidAddress report)) h = absurd (omega arith)
+    by (Err NoEraseInstruction) h = absurd (omega arith)
+    by (Err (NoRoom n)) h = absurd (omega arith)
 
 pub plan_shown : PlanShown
 plan_shown e long ts h a n slots =
     let s : Session = after ts in
     let g = reaches e long ts h (exports e).fresh fresh [] (new_packs e long) in
-    subst (λ (o : Opened). PlanRead ts a n slots (plan_called o a n slots e)) (sym (ap (λ (b : List ℕ). opened_of b (length e)) g.0 ∙ opened s g.1 e long))
+    subst (λ (o : Result Session Refusal). PlanRead ts a n slots (plan_called o a n slots e)) (sym (ap (λ (b : List ℕ). opened_of b (length e)) g.0 ∙ opened s g.1 e long))
     (record {
       number = refl;
       entries = λ z. ap (entries_in (length (plan_for (query_of s a n)))) (over_plan (query_of s a n) slots z)

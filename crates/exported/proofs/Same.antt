@@ -1,4 +1,5 @@
 -- The exports are the driver over bytes.
+use Rattle.std.proofs.Common.{Some, None}
 use Prim.Native.Nat.{ℕ, ◌≤◌}
 use mathlib.Core.Path.{◌≡◌, refl, sym, ◌∙◌, ap}
 use mathlib.Core.Bool.{Bool, true, false, cond, ◌&&◌}
@@ -17,8 +18,6 @@ use Rattle.packed.specs.Layout.{bytes_of, session_in, put_over}
 use Rattle.packed.proofs.Laws.{sized, same_is_packed}
 use Rattle.rule.specs.Rule.{rule_of}
 use Rattle.over_bytes.specs.OverBytes.{Back, packed_of, bad_bytes, unpack_of, start_bytes, step_bytes}
-use Rattle.moss_flash.specs.declared.Unpacked.{Unpacked}
-use Rattle.moss_flash.specs.declared.Unpacked.TheVariants.{Held, Bad}
 use Rattle.moss_flash.specs.Calls.{opening, starting, opened_of, opened_start, called, Called, number_in}
 use Rattle.moss_flash.specs.Calls as C
 use Rattle.exported.specs.Exported.{As, Exported}
@@ -44,13 +43,13 @@ put_packs : (s : Session) (b : List ℕ) → length b ≡ 256 → put_over s b �
 put_packs s b h = rw (eq-eqb _ _ h) refl
 
 opened : (t : Bool) (s : Session) (b e room : List ℕ) (f : Session → Taken) → (t ≡ true → length b ≡ 256) → 64 ≤ length e
-    → As (called (opening (cond t (Held s) Bad) (length e)) b e room f) (backed (cond t (some s) none) f b room)
+    → As (called (opening (cond t (Some s) None) (length e)) b e room f) (backed (cond t (some s) none) f b room)
 unfolding number_in
 opened true s b e room f h l = rw (le-ltb _ _ l) (record { number = refl; session = put_packs (f s).out.session b (h refl); room = refl })
 opened false s b e room f h l = record { number = refl; session = refl; room = refl }
 
 started : (t : Bool) (s : Session) (b e room : List ℕ) (f : Session → Taken) → (t ≡ true → length b ≡ 256) → 64 ≤ length e
-    → As (called (starting (cond t (Held s) Bad) (length e)) b e room f) (backed (cond t (some s) none) f b room)
+    → As (called (starting (cond t (Some s) None) (length e)) b e room f) (backed (cond t (some s) none) f b room)
 unfolding number_in
 started true s b e room f h l = rw (le-ltb _ _ l) (record { number = refl; session = put_packs (f s).out.session b (h refl); room = refl })
 started false s b e room f h l = record { number = refl; session = refl; room = refl }

@@ -1,4 +1,5 @@
 -- What C reads from the settings' record is what the session keeps.
+use Rattle.std.proofs.Common.{Option, Some, None, is_some, unwrap_or, cond}
 use mathlib.Core.Path.{◌≡◌, refl, sym, ap, ◌∙◌, subst}
 use mathlib.Core.Bool.{Bool, true, false, cond, not, ◌&&◌}
 use mathlib.Core.List.{List, [], ◌∷◌, ◌++◌}
@@ -18,7 +19,6 @@ use Rattle.flash.specs.Starts.{fresh}
 use Rattle.meaning.specs.Meaning.{kept_of}
 use Rattle.packed.specs.Layout.{bytes_of}
 use Rattle.rule.specs.Kept.{Whole}
-use Rattle.moss_flash.specs.declared.Unpacked.{Unpacked}
 use Rattle.moss_flash.specs.declared.records.SettingsRecord.{SettingsRecord}
 use Rattle.moss_flash.specs.Records.{bit, le8, low_first, settings_head, settings_words, settings_over}
 use Rattle.moss_flash.specs.Calls.{Called, unpack_of, settings_called}
@@ -77,6 +77,11 @@ bit_read : (b : Bool) → eqb (bit b + 256 * 0) 1 ≡ b
 bit_read true = refl
 bit_read false = refl
 
+-- a capacity from its mark and its number
+capacity_read : (o : Option ℕ) {b : Bool} {n : ℕ} → b ≡ is_some o → n ≡ unwrap_or o 0 → cond b (Some n) None ≡ o
+capacity_read (Some x) e h = rw (e, h)
+capacity_read None e h = rw e
+
 one_byte : (x : ℕ) → x + 256 * 0 ≡ x
 one_byte x = omega arith
 
@@ -85,18 +90,18 @@ two_bytes x = omega arith
 
 head_digits : (s : Session) → Whole s
     → le8 (settings_head s)
-    ≡ s.settings.address_bytes ∷ bit s.settings.capacity_set ∷ s.settings.erase_opcode ∷ bit s.known
+    ≡ s.settings.address_bytes ∷ bit (is_some s.settings.capacity) ∷ s.settings.erase_opcode ∷ bit s.known
     ∷ s.settings.poll_limit % 256 ∷ s.settings.poll_limit / 256 ∷ bit (flagged s) ∷ bit (not (is_ended s.phase)) ∷ []
 unfolding settings_head low_first
 head_digits s w =
     let p = s.settings.poll_limit in
     let t = w.typed.settings in
     let e : settings_head s
-    ≡ s.settings.address_bytes + 256 * (bit s.settings.capacity_set + 256 * (s.settings.erase_opcode + 256 * (bit s.known
+    ≡ s.settings.address_bytes + 256 * (bit (is_some s.settings.capacity) + 256 * (s.settings.erase_opcode + 256 * (bit s.known
     + 256 * (p % 256 + 256 * (p / 256 + 256 * (bit (flagged s) + 256 * bit (not (is_ended s.phase)))))))) = omega arith in
     ap le8 e
-    ∙ digits s.settings.address_bytes (bit s.settings.capacity_set) s.settings.erase_opcode (bit s.known) (p % 256) (p / 256) (bit (flagged s)) (bit (not (is_ended s.phase)))
-    t.address_bytes (bit_small s.settings.capacity_set) t.erase_opcode (bit_small s.known) (omega arith) (omega (arith, t.poll_limit)) (bit_small (flagged s))
+    ∙ digits s.settings.address_bytes (bit (is_some s.settings.capacity)) s.settings.erase_opcode (bit s.known) (p % 256) (p / 256) (bit (flagged s)) (bit (not (is_ended s.phase)))
+    t.address_bytes (bit_small (is_some s.settings.capacity)) t.erase_opcode (bit_small s.known) (omega arith) (omega (arith, t.poll_limit)) (bit_small (flagged s))
     (bit_small (not (is_ended s.phase)))
 
 -- ---- the record
@@ -106,11 +111,11 @@ unfolding settings_words low_first flagged by_flag
 reads s w rest =
     let x = s.settings in
     let d = cond s.known s.params.density 0 in
-    let back : List ℕ = le8 x.capacity ++ (le8 (x.page_size + 4294967296 * x.erase_size) ++ (le8 d ++ rest)) in
+    let back : List ℕ = le8 (unwrap_or x.capacity 0) ++ (le8 (x.page_size + 4294967296 * x.erase_size) ++ (le8 d ++ rest)) in
     let runs = not (is_ended s.phase) in
     let t = w.typed in
     ap (λ (l : List ℕ). told_in (l ++ back)) (head_digits s w)
-    ∙ same (one_byte x.address_bytes) (bit_read x.capacity_set) (exact_8 x.capacity t.settings.capacity)
+    ∙ same (one_byte x.address_bytes) (capacity_read x.capacity (bit_read (is_some x.capacity)) (exact_8 (unwrap_or x.capacity 0) t.settings.capacity)) (exact_8 (unwrap_or x.capacity 0) t.settings.capacity)
     (page_in x.page_size x.erase_size t.settings.page_size) (size_in x.page_size x.erase_size t.settings.page_size t.settings.erase_size)
     (one_byte x.erase_opcode) (two_bytes x.poll_limit) (bit_read s.known) (bit_read (s.known && s.params.busy_poll_flag)) (bit_read runs)
     (exact_8 d (dense s.known))
@@ -119,10 +124,10 @@ reads s w rest =
     dense true = w.typed.params.density
     dense false = omega arith
 
-    same : {a a' c c' p p' z z' o o' l l' d d' : ℕ} {cs cs' k k' f f' r r' : Bool} → a ≡ a' → cs ≡ cs' → c ≡ c' → p ≡ p' → z ≡ z' → o ≡ o' → l ≡ l' → k ≡ k' → f ≡ f' → r ≡ r' → d ≡ d'
+    same : {a a' c c' p p' z z' o o' l l' d d' : ℕ} {m m' : Option ℕ} {k k' f f' r r' : Bool} → a ≡ a' → m ≡ m' → c ≡ c' → p ≡ p' → z ≡ z' → o ≡ o' → l ≡ l' → k ≡ k' → f ≡ f' → r ≡ r' → d ≡ d'
         → ◌≡◌ {A = Told}
-        (record { settings = record { address_bytes = a; capacity_set = cs; capacity = c; page_size = p; erase_size = z; erase_opcode = o; poll_limit = l }; known = k; by_flags = f; runs = r; density = d })
-        (record { settings = record { address_bytes = a'; capacity_set = cs'; capacity = c'; page_size = p'; erase_size = z'; erase_opcode = o'; poll_limit = l' }; known = k'; by_flags = f'; runs = r'; density = d' })
+        (record { settings = record { address_bytes = a; capacity = m; page_size = p; erase_size = z; erase_opcode = o; poll_limit = l }; capacity = c; known = k; by_flags = f; runs = r; density = d })
+        (record { settings = record { address_bytes = a'; capacity = m'; page_size = p'; erase_size = z'; erase_opcode = o'; poll_limit = l' }; capacity = c'; known = k'; by_flags = f'; runs = r'; density = d' })
     same e1 e2 e3 e4 e5 e6 e7 e8 e9 e10 e11 = cc
 
 pub settings_shown : SettingsShown
@@ -131,7 +136,7 @@ settings_shown e long ts h out fits =
     let g = reaches e long ts h (exports e).fresh fresh [] (new_packs e long) in
     let w = written (settings_words s) out fits in
     ap (λ (b : List ℕ). told_in (settings_called (unpack_of b) out).event) g.0
-    ∙ ap (λ (u : Unpacked). told_in (settings_called u out).event) (unpacks s g.1)
+    ∙ ap (λ (u : Option Session). told_in (settings_called u out).event) (unpacks s g.1)
     ∙ ap (λ (b : Bool). told_in (cond {A = Called} b (record { number = 11; session = []; event = out; room = [] }) (record { number = 0; session = []; event = settings_over (settings_words s) out; room = [] })).event)
     (le-ltb (length out) 32 fits)
     ∙ ap told_in w.is

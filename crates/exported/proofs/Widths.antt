@@ -1,4 +1,5 @@
 -- The transaction that a whole session waits on has numbers of their widths.
+use Rattle.std.proofs.Common.{Some, None, Option, unwrap_or, is_some}
 use mathlib.Core.Path.{◌≡◌, refl, sym, subst}
 use mathlib.Core.Bool.{Bool, true, false, cond, not, ◌&&◌}
 use mathlib.Core.List.{List, [], ◌∷◌, ◌++◌}
@@ -12,8 +13,7 @@ use Rattle.settings.specs.Limits.{page_of}
 use Rattle.settings.proofs.Laws.{accepted_32}
 use Rattle.erase_plan.specs.declared.EraseType.{EraseType}
 use Rattle.erase_plan.specs.declared.EraseTypes.{EraseTypes}
-use Rattle.erase_plan.specs.declared.Next.{Next}
-use Rattle.erase_plan.specs.declared.Next.TheVariants.{Nothing, Entry}
+use Rattle.erase_plan.specs.declared.NextEntry.{NextEntry}
 use Rattle.erase_plan.specs.Good.{Each}
 use Rattle.erase_plan.specs.Types.{no_type, kept, present, four_of}
 use Rattle.erase_plan.specs.Plan.{beats, chosen_from, chosen, entry_at, next_pos, next_of}
@@ -48,7 +48,7 @@ use Rattle.rule.proofs.Steps.{rule_phase}
 pub record Narrow (t : EraseType) : Type 0 where
   pub opcode : t.opcode < 256
   pub size : t.size < 2 ^ 32
-  pub time : t.time < 2 ^ 32
+  pub time : unwrap_or t.time 0 < 2 ^ 32
 
 kept_narrow : (t : EraseType) → Narrow t → Each Narrow (kept t)
 unfolding kept
@@ -57,8 +57,9 @@ kept_narrow t h = by_cond (Each Narrow) (eqb t.size 0) [] (t ∷ []) (λ e. tt) 
 four_narrow : (a b c d : EraseType) → Narrow a → Narrow b → Narrow c → Narrow d → Each Narrow (present (four_of a b c d))
 unfolding present
 four_narrow a b c d ha hb hc hd =
-    each_append Narrow (kept a ++ kept b ++ kept c) (kept d)
-    (each_append Narrow (kept a ++ kept b) (kept c) (each_append Narrow (kept a) (kept b) (kept_narrow a ha) (kept_narrow b hb)) (kept_narrow c hc)) (kept_narrow d hd)
+    each_append Narrow (kept a) (kept b ++ (kept c ++ (kept d ++ []))) (kept_narrow a ha)
+    (each_append Narrow (kept b) (kept c ++ (kept d ++ [])) (kept_narrow b hb)
+    (each_append Narrow (kept c) (kept d ++ []) (kept_narrow c hc) (each_append Narrow (kept d) [] (kept_narrow d hd) tt)))
 
 no_narrow : Narrow no_type
 no_narrow = record { opcode = omega arith; size = omega arith; time = omega arith }
@@ -67,7 +68,11 @@ single_narrow : (size opcode : ℕ) → size < 2 ^ 32 → opcode < 256 → Each 
 single_narrow size opcode g h = four_narrow _ no_type no_type no_type (record { opcode = h; size = g; time = omega arith }) no_narrow no_narrow no_narrow
 
 inst_narrow : (i : SFDPEraseInst) → TypedInst i → Narrow (type_of i)
-inst_narrow i h = record { opcode = h.opcode; size = h.size; time = h.time_typ }
+inst_narrow i h = record { opcode = h.opcode; size = h.size; time = known i.timed }
+  where
+    known : (b : Bool) → unwrap_or (cond b (Some i.time_typ) None) 0 < 2 ^ 32
+    known true = h.time_typ
+    known false = omega arith
 
 pub types_narrow : (s : Session) → Whole s → Each Narrow (types_of s)
 unfolding available of_params of_settings
@@ -106,18 +111,18 @@ next_fine : (bytes : ℕ) (ts : List EraseType) (pos end : ℕ) → bytes ≤ 4 
 unfolding next_of block_tx entry_at
 next_fine bytes [] pos end h g = record { opcode = omega arith; addressed = h; reply = omega arith; from = omega arith; len = omega arith; delay = omega arith }
 next_fine bytes (t ∷ ts) pos end h g =
-    by_cond (λ (x : Next). Fine (block_tx bytes x)) (ltb pos end) _ Nothing (λ e. entry)
+    by_cond (λ (x : Option NextEntry). Fine (block_tx bytes x)) (ltb pos end) _ None (λ e. entry)
     (λ e. record { opcode = omega arith; addressed = h; reply = omega arith; from = omega arith; len = omega arith; delay = omega arith })
   where
     c : Narrow (chosen (t ∷ ts) pos end)
     c = chosen_narrow (t ∷ ts) pos end g
 
-    delayed : (b : Bool) → cond (eqb (cond b 1 0) 1) ((chosen (t ∷ ts) pos end).time / 2) 0 < 2 ^ 32
+    delayed : (b : Bool) → cond (eqb (cond b 1 0) 1) (unwrap_or (chosen (t ∷ ts) pos end).time 0 / 2) 0 < 2 ^ 32
     delayed true = omega (arith, c.time)
     delayed false = omega arith
 
-    entry : Fine (block_tx bytes (Entry (entry_at (t ∷ ts) pos end) (next_pos (t ∷ ts) pos end - 1)))
-    entry = record { opcode = c.opcode; addressed = h; reply = omega arith; from = omega arith; len = omega arith; delay = delayed (chosen (t ∷ ts) pos end).timed }
+    entry : Fine (block_tx bytes (Some (record { entry = entry_at (t ∷ ts) pos end; stop = next_pos (t ∷ ts) pos end - 1 })))
+    entry = record { opcode = c.opcode; addressed = h; reply = omega arith; from = omega arith; len = omega arith; delay = delayed (is_some (chosen (t ∷ ts) pos end).time) }
 
 bytes_most : (s : Session) → Whole s → s.settings.address_bytes ≤ 4
 bytes_most s w = (rule_meets s w.ruled).limits.address.1

@@ -4,7 +4,7 @@ use Rattle.erase_plan.specs.declared.EraseEntry.{EraseEntry}
 use Rattle.erase_plan.specs.Good.{Each}
 use Rattle.plans.specs.Planned.{plan_for, planned_of}
 use Rattle.moss_flash.specs.Calls.{Called, opened_of}
-use Rattle.moss_flash.specs.Plans.{query_of, plan_called}
+use Rattle.moss_flash.specs.Plans.{query_of, plan_head, plan_called}
 use Rattle.driver.specs.Driver.{Turn, Typed, first, reached}
 use Rattle.driver.specs.Demand3.{after}
 use Rattle.exported.specs.Exports.{number_at, exports}
@@ -20,7 +20,7 @@ entries_in (suc n) l = entry_in l ∷ entries_in n (drop 16 l)
 
 -- of a call for n bytes from a on: the number is that of the plan by what the session keeps, and where it is 0 C reads the plan
 pub record PlanRead (ts : List Turn) (a n : ℕ) (slots : List ℕ) (y : Called) : Type 0 where
-  pub number : y.number ≡ (planned_of (query_of (after ts) a n) (length slots / 16)).number
+  pub number : y.number ≡ plan_head (planned_of (query_of (after ts) a n) (length slots / 16))
   pub entries : y.number ≡ 0 → entries_in (length (plan_for (query_of (after ts) a n))) y.room ≡ plan_for (query_of (after ts) a n)
 
 -- whatever a host has done before

@@ -1,26 +1,41 @@
 // What the programs share that read files by name: opened, read to their end, told by name where that fails; and the question for help.
 #![tactic(auto)]
 
-ghost use Rattle.std.specs.Prelude.{◌≡◌, ◌≤◌, length, take};
+ghost use Rattle.std.specs.Prelude.{◌≡◌, ◌≤◌, length, take, IfErr, IfOk};
+ghost use Rattle.std.specs.Io.{ReadsAtMost};
 
 use std::env::{Env, FillError};
+use std::fmt::{Display, Formatter};
 use std::io::{Error, ErrorKind, Read, Write};
 use std::rt::Files;
-use std::{fs, io};
+use std::{fmt, fs, io};
 
-// How many bytes came, and whether reading failed.
-#[derive(Clone, Copy)]
-pub struct Part {
+// A file that could not be read to its end. So many bytes came before.
+#[derive(Clone, Copy, Debug, PartialEq, Eq)]
+pub struct Broken {
     pub len: usize,
-    pub failed: bool,
+}
+
+impl Display for Broken {
+    fn fmt<W: fmt::Write>(&self, f: &mut Formatter<W>) -> fmt::Result {
+        let len = self.len;
+        write!(f, "reading failed after {len} bytes")
+    }
+}
+
+impl std::error::Error for Broken {}
+
+// Reading that failed after so many bytes, and why.
+#[derive(Debug, Drop)]
+pub struct Cut {
+    pub len: usize,
+    pub why: Error,
 }
 
 // The system's reason, without its number, which std writes behind it.
 fn words(text: &str) -> &str {
-    match text.split_once(" (os error ") {
-        Some((reason, _)) => reason,
-        None => text,
-    }
+    text.split_once(" (os error ")
+        .map_or(text, |(reason, _)| reason)
 }
 
 // Writes a line to standard error: what failed, a colon and the reason.
@@ -33,22 +48,21 @@ fn say<R: Eprint>(rt: &R, what: &[u8], reason: &str) {
 
 // Writes a line to standard error: what failed, as the caller names it, a colon and the system's reason.
 pub fn fail<R: Eprint>(rt: &R, what: &[u8], why: &Error) {
+    // Fixed memory, since a caller has no allocator to lend.
     let mut room = [0u8; 256];
     let mut rest: &mut [u8] = &mut room;
     let _ = write!(rest, "{why}");
     let n = 256usize.saturating_sub(rest.len());
-    match str::from_utf8(&room[..n]) {
-        Ok(text) => say(rt, what, words(text)),
-        Err(_) => say(rt, what, "no reason is known"),
-    }
+    say(
+        rt,
+        what,
+        str::from_utf8(&room[..n]).map_or("no reason is known", words),
+    );
 }
 
 // A file's name as std takes it: text, which a name of Linux need not be.
 pub fn path(name: &[u8]) -> io::Result<&str> {
-    match str::from_utf8(name) {
-        Ok(path) => Ok(path),
-        Err(_) => Err(Error::new(ErrorKind::InvalidInput, "the name is not UTF-8")),
-    }
+    str::from_utf8(name).map_err(|_| Error::new(ErrorKind::InvalidInput, "the name is not UTF-8"))
 }
 
 // Opens a file.
@@ -63,76 +77,66 @@ fn open_to_read<R: Files>(rt: &R, name: &[u8]) -> io::Result<R::File> {
     Ok(file)
 }
 
+// What came of a file. Or nothing, and its name and the system's reason go to standard error.
+pub fn told<R: Eprint, T: Drop>(rt: &R, name: &[u8], outcome: io::Result<T>) -> Option<T> {
+    outcome.inspect_err(|e| fail(rt, name, e)).ok()
+}
+
 // Opens a file that can be read. Or nothing, and its name and the system's reason go to standard error.
 pub fn open<R: Files + Eprint>(rt: &R, name: &[u8]) -> Option<R::File> {
-    match open_to_read(rt, name) {
-        Ok(file) => Some(file),
-        Err(e) => {
-            fail(rt, name, &e);
-            None
-        }
-    }
+    told(rt, name, open_to_read(rt, name))
 }
 
-// A part that broke off. The file's name and the system's reason go to standard error.
-fn broken<R: Eprint>(rt: &R, name: &[u8], why: &Error, n: usize) -> Part
-    ensures { result.len ≡ n }
+// Reads until the buffer is full or the file ends. If reading fails, the reason comes with how many bytes came before.
+pub fn fill_or_cut<F: Read>(file: &mut F, buf: &mut [u8]) -> Result<usize, Cut>
+    ensures ok { ReadsAtMost result buf.new }
+    ensures bound { IfErr result (λ e. e.len ≤ length buf.new) }
 {
-    fail(rt, name, why);
-    Part {
-        len: n,
-        failed: true,
-    }
-}
-
-// Reads until the buffer is full or the file ends.
-pub fn fill<R: Eprint, F: Read>(rt: &R, file: &mut F, name: &[u8], buf: &mut [u8]) -> Part
-    ensures bound { result.len ≤ length buf.new }
-    ensures prefix { result.len ≡ length (take result.len buf.new) }
-{
-    let mut n: usize = 0;
+    let mut n = 0;
+    // A loop over read, since read_exact and read_to_end do not promise how many bytes came before an error.
     while n < buf.len() {
         match file.read(&mut buf[n..]) {
             Ok(0) => break,
             Ok(more) => n += more,
-            Err(e) => return broken(rt, name, &e, n),
+            Err(why) => return Err(Cut { len: n, why }),
         }
     }
-    Part {
-        len: n,
-        failed: false,
-    }
+    Ok(n)
+}
+
+// The same, and if reading fails, the file's name and the system's reason go to standard error.
+pub fn fill<R: Eprint, F: Read>(
+    rt: &R,
+    file: &mut F,
+    name: &[u8],
+    buf: &mut [u8],
+) -> Result<usize, Broken>
+    ensures ok { ReadsAtMost result buf.new }
+    ensures bound { IfErr result (λ e. e.len ≤ length buf.new) }
+    ensures prefix { IfErr result (λ e. e.len ≡ length (take e.len buf.new)) }
+{
+    fill_or_cut(file, buf).map_err(|Cut { len, why }| {
+        fail(rt, name, &why);
+        Broken { len }
+    })
 }
 
 // A file of at most as many bytes as the buffer has, or the first of them.
-pub fn read<R: Files + Eprint>(rt: &R, name: &[u8], buf: &mut [u8]) -> Part
-    ensures bound { result.len ≤ length buf.new }
-    ensures prefix { result.len ≡ length (take result.len buf.new) }
+pub fn read<R: Files + Eprint>(rt: &R, name: &[u8], buf: &mut [u8]) -> Result<usize, Broken>
+    ensures ok { ReadsAtMost result buf.new }
+    ensures bound { IfErr result (λ e. e.len ≤ length buf.new) }
+    ensures prefix { IfErr result (λ e. e.len ≡ length (take e.len buf.new)) }
 {
-    match open(rt, name) {
-        Some(mut file) => fill(rt, &mut file, name, buf),
-        None => Part {
-            len: 0,
-            failed: true,
-        },
-    }
+    let mut file = open(rt, name).ok_or(Broken { len: 0 })?;
+    fill(rt, &mut file, name, buf)
 }
 
-// Puts argument i at the start of the buffer; the first is 1. It failed if there is none, or a longer one.
-pub fn argument<R: Env>(rt: &R, i: usize, buf: &mut [u8]) -> Part
-    ensures bound { result.len ≤ length buf.new }
-    ensures prefix { result.len ≡ length (take result.len buf.new) }
+// Puts argument i at the start of the buffer, and gives it; the first is 1. It fails if there is none, or a longer one.
+pub fn argument<'a, R: Env>(rt: &R, i: usize, buf: &'a mut [u8]) -> Result<&'a [u8], FillError>
+    ensures { IfOk result (λ s. length s.now ≤ length buf.old) }
 {
-    match rt.arg(i, buf) {
-        Ok(n) => Part {
-            len: n,
-            failed: false,
-        },
-        Err(_) => Part {
-            len: 0,
-            failed: true,
-        },
-    }
+    let n = rt.arg(i, buf)?;
+    Ok(&buf[..n])
 }
 
 // Whether there is no argument i.

@@ -1,14 +1,13 @@
--- What a phase asks for is what its session's transaction asks for; a transaction does not look at the session's phase and polls; and
--- a read that is no table leaves all but the phase.
+-- What a phase asks for is what its session's transaction asks for, and a transaction does not look at the session's phase and polls.
+use Rattle.std.proofs.Common.{Some, None, Option}
 use Prim.Native.Nat.{ℕ}
-use mathlib.Core.Bool.{true, false, true≢false}
-use mathlib.Core.List.{List, [], ◌∷◌}
-use mathlib.Core.Path.{◌≡◌, refl, sym, ◌∙◌, ap}
+use mathlib.Core.Bool.{true, false}
+use mathlib.Core.List.{[], ◌∷◌}
+use mathlib.Core.Path.{◌≡◌, refl, sym, ap}
 use denote.Enum.Declared.{tag_of}
 use types.Run.{OneOf, miss}
 use Rattle.settings.specs.declared.Settings.{Settings}
-use Rattle.erase_plan.specs.declared.Next.{Next}
-use Rattle.erase_plan.specs.declared.Next.TheVariants.{Nothing, Entry}
+use Rattle.erase_plan.specs.declared.NextEntry.{NextEntry}
 use Rattle.phases.specs.declared.ReadCommand.{ReadCommand}
 use Rattle.phases.specs.declared.ReadCommand.TheVariants as Reads
 use Rattle.phases.specs.declared.EraseCommand.{EraseCommand}
@@ -20,12 +19,10 @@ use Rattle.phases.specs.declared.ResetCommand.TheVariants as Resets
 use Rattle.phases.specs.declared.Phase.{Phase}
 use Rattle.phases.specs.declared.Phase.TheVariants.{Reading, Erasing, Writing, Polling, Verifying, Resetting, Ended}
 use Rattle.phases.specs.Waits.{read_tx, block_tx, page_tx, write_tx, verify_tx, reset_tx, is_poll, reply_of}
-use Rattle.phases.specs.Moves.{after_read, is_table}
 use Rattle.phases.specs.contracts.Phase as Phase-enum
 use Rattle.flash.specs.declared.Session.{Session}
 use Rattle.flash.specs.declared.Event.TheVariants.{Send}
 use Rattle.flash.specs.Waits.{entry_for, erase_tx, page_pause, flagged, poll_tx, waits_on, event_of, in_phase}
-use Rattle.flash.specs.Steps.{goes, read_on}
 
 -- ---- is it a poll
 read_poll : (x : Settings) (c : ReadCommand) → (read_tx x c).poll ≡ false
@@ -41,10 +38,10 @@ read_poll x Reads.Id = refl
 read_poll x Reads.IdAgain = refl
 read_poll x Reads.Protected = refl
 
-block_poll : (b : ℕ) (x : Next) → (block_tx b x).poll ≡ false
+block_poll : (b : ℕ) (x : Option NextEntry) → (block_tx b x).poll ≡ false
 unfolding block_tx
-block_poll b Nothing = refl
-block_poll b (Entry e stop) = refl
+block_poll b None = refl
+block_poll b (Some e) = refl
 
 erase_poll : (s : Session) (c : EraseCommand) → (erase_tx s c).poll ≡ false
 unfolding erase_tx
@@ -73,10 +70,10 @@ poll_same s (Resetting Resets.F0) = refl
 poll_same s (Ended c a) = refl
 
 -- ---- how many bytes it asks for
-block_reply : (b : ℕ) (x : Next) → (block_tx b x).reply ≡ 0
+block_reply : (b : ℕ) (x : Option NextEntry) → (block_tx b x).reply ≡ 0
 unfolding block_tx
-block_reply b Nothing = refl
-block_reply b (Entry e stop) = refl
+block_reply b None = refl
+block_reply b (Some e) = refl
 
 erase_reply : (s : Session) (c : EraseCommand) → (erase_tx s c).reply ≡ 0
 unfolding erase_tx
@@ -103,10 +100,6 @@ reply_same s (Resetting Resets.Reset) = refl
 reply_same s (Resetting Resets.F0) = refl
 reply_same s (Ended c a) = refl
 
--- a number that is asked for by all settings is what the session's transaction asks for
-pub reply_is : (s : Session) (p : Phase) (n : ℕ) → ((x : Settings) → n ≡ reply_of x p) → n ≡ (waits_on s p).reply
-reply_is s p n f = f s.settings ∙ reply_same s p
-
 -- ---- the event of a phase that runs
 pub waits_same : (s : Session) (q : Phase) (n : ℕ) (p : Phase) → waits_on (in_phase s q n) p ≡ waits_on s p
 unfolding waits_on erase_tx write_tx page_tx page_pause entry_for poll_tx flagged verify_tx
@@ -131,16 +124,3 @@ event_runs s n (Polling c left) h = ap Send (sym (waits_same s (Polling c left) 
 event_runs s n (Verifying c) h = ap Send (sym (waits_same s (Verifying c) n (Verifying c)))
 event_runs s n (Resetting c) h = ap Send (sym (waits_same s (Resetting c) n (Resetting c)))
 event_runs s n (Ended c a) h = absurd (miss (0 ∷ 1 ∷ 2 ∷ 3 ∷ 4 ∷ 5 ∷ []) 6 tt h)
-
--- ---- a read that is no table
-pub read_goes : (s : Session) (n : ℕ) (c : ReadCommand) (r : List ℕ) → is_table c ≡ false → read_on s n c r ≡ goes s n (after_read c r)
-unfolding read_on is_table
-read_goes s n (Reads.Read legacy a k) r h = refl
-read_goes s n Reads.Header r h = refl
-read_goes s n (Reads.Headers more) r h = refl
-read_goes s n (Reads.Table minor plen ptp) r h = absurd (true≢false h)
-read_goes s n (Reads.Before J) r h = refl
-read_goes s n (Reads.After J) r h = refl
-read_goes s n Reads.Id r h = refl
-read_goes s n Reads.IdAgain r h = refl
-read_goes s n Reads.Protected r h = refl

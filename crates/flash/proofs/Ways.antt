@@ -1,6 +1,6 @@
 -- The four ways of a step, each with what it hands back and what it leaves in the room.
 use Prim.Native.Nat.{ℕ, ◌+◌, ◌%◌, ◌^◌, ◌≤◌, ◌<◌}
-use mathlib.Core.Path.{◌≡◌, refl, sym, ◌∙◌, ap}
+use mathlib.Core.Path.{◌≡◌, refl, sym}
 use mathlib.Core.Bool.{Bool, true, false, cond, not, ◌&&◌}
 use mathlib.Core.List.{List}
 use borrow.Author.Tests.{lt-ltb, le-ltb}
@@ -8,14 +8,13 @@ use lib.Dec.{eqb}
 use lib.ListN.{length}
 use Rattle.settings.specs.declared.Settings.{Settings}
 use Rattle.commands.specs.declared.Answer.TheVariants.{Access, NoRoom}
-use Rattle.phases.specs.declared.Phase.{Phase}
 use Rattle.phases.specs.Waits.{is_poll, reply_of, need_of}
 use Rattle.phases.specs.Moves.{ends_as, room_after, is_ended}
 use Rattle.flash.specs.declared.Session.{Session}
 use Rattle.flash.specs.declared.Event.TheVariants.{Answered}
 use Rattle.flash.specs.declared.Stepped.{Stepped}
-use Rattle.flash.specs.Waits.{event_of, told}
-use Rattle.flash.specs.Steps.{goes, ends, advanced, counted, is_full, step_of}
+use Rattle.flash.specs.Waits.{told}
+use Rattle.flash.specs.Steps.{ends, advanced, counted, is_full, step_of}
 use Rattle.flash.proofs.Phases.{poll_same, reply_same}
 
 module _ (s : Session) (failed : Bool) (r room : List ℕ) where
@@ -50,9 +49,3 @@ module _ (s : Session) (failed : Bool) (r room : List ℕ) where
         pub way_on : (x : Stepped) (l : List ℕ) → full ≡ true → (x ≡ told (advanced s n s.phase r room)) × (l ≡ room_after s.phase r room) → Steps x l
         unfolding step_of
         way_on x l h e = rw (runs, ← is, le-ltb _ _ fits, full_is, h, count_is) e
-
-        -- by the phase that follows, where all else of the session stays
-        pub way_goes : (q : Phase) (l : List ℕ) → full ≡ true → advanced s n s.phase r room ≡ goes s n q → l ≡ room_after s.phase r room
-            → Steps (record { session = goes s n q; event = event_of (goes s n q) q }) l
-        unfolding told
-        way_goes q l h a e = way_on _ l h (ap told (sym a), e)

@@ -1,10 +1,9 @@
 -- The starts: 13 while a command runs, the refusals in the order of docs/SCOPE.md, Answer numbers, else the command's first transaction.
-use Rattle.std.specs.Prelude.{ℕ, ◌+◌, ◌-◌, Bool, false, cond, not, ◌&&◌, ◌||◌, List, eqb, ltb, leb, length}
+use Rattle.std.specs.Prelude.{ℕ, ◌+◌, ◌-◌, Bool, false, cond, not, ◌&&◌, ◌||◌, List, eqb, ltb, leb, length, Result, Ok, Err}
 use Rattle.sfdp.specs.Jesd216.{no_params}
 use Rattle.settings.specs.declared.Settings.{Settings}
 use Rattle.settings.specs.Ranges.{accepted_range, last_address}
-use Rattle.settings.specs.declared.SetAnswer.{SetAnswer}
-use Rattle.settings.specs.declared.SetAnswer.TheVariants.{Set, BadSetting as Refused}
+use Rattle.settings.specs.declared.SettingError.{SettingError}
 use Rattle.settings.specs.Limits.{defaults}
 use Rattle.commands.specs.declared.Answer.{Answer}
 use Rattle.commands.specs.declared.Answer.TheVariants.{Done, InvalidAddress, NoResetInstruction, NoEraseInstruction, BadSetting, NoRoom, BadSession}
@@ -23,8 +22,6 @@ use Rattle.flash.specs.declared.Stepped.{Stepped}
 use Rattle.flash.specs.declared.First.{First}
 use Rattle.flash.specs.declared.First.TheVariants as Firsts
 use Rattle.erase_plan.specs.declared.Surveyed.{Surveyed}
-use Rattle.erase_plan.specs.declared.SpanCheck.{SpanCheck}
-use Rattle.erase_plan.specs.declared.SpanCheck.TheVariants as Span
 use Rattle.erase_plan.specs.Plan.{plan}
 use Rattle.erase_plan.specs.Span.{survey_of, span_check}
 use Rattle.flash.specs.Waits.{types_of, told}
@@ -70,9 +67,9 @@ start_erase s = unless_runs s (starts s (Erasing Erases.Chip false))
 abbrev pub survey_for : Session → ℕ → ℕ → Surveyed
 survey_for s a n = survey_of (plan (types_of s) a (a + n))
 
-abbrev pub span_fits : Session → SpanCheck → Stepped → Stepped
-span_fits s Span.Fits next = next
-span_fits s (Span.Bad a) next = refused s (InvalidAddress (record { last = a }))
+abbrev pub span_fits : Session → Result (Unit {0}) ℕ → Stepped → Stepped
+span_fits s (Ok _) next = next
+span_fits s (Err a) next = refused s (InvalidAddress (record { last = a }))
 
 -- of an accepted range: 7, 5 for the span, or the first entry of the plan
 abbrev pub begin_sectors : Session → ℕ → ℕ → Stepped
@@ -113,10 +110,10 @@ start_room (stays x) d room = room
 start_room (begins at s) d room = laid at d room
 
 -- the start that a session's beginning comes to
-abbrev pub start_of : Session → First → Start
-start_of s (Firsts.Refused a) = stays (refused s a)
-start_of s Firsts.Over = stays (told (ends s 0 Ends.Other Done))
-start_of s (Firsts.Goes at p) = begins at (goes s 0 p)
+abbrev pub start_of : Session → Result First Answer → Start
+start_of s (Err a) = stays (refused s a)
+start_of s (Ok Firsts.Over) = stays (told (ends s 0 Ends.Other Done))
+start_of s (Ok (Firsts.Goes at p)) = begins at (goes s 0 p)
 
 -- the checks again, over such starts
 abbrev pub checked : Bool → Session → Answer → Start → Start
@@ -170,9 +167,9 @@ abbrev pub with_settings : Session → Settings → Session
 with_settings s x = record { settings = x; known = s.known; params = s.params; phase = s.phase; polls = s.polls }
 
 -- a setter's answer: Done with the new settings, or 10, or 13; the session's own last answer stays
-abbrev pub set_to : Session → SetAnswer → Stepped
-set_to s (Set x) = record { session = with_settings s x; event = Answered Done 0 }
-set_to s Refused = refused s BadSetting
+abbrev pub set_to : Session → Result Settings SettingError → Stepped
+set_to s (Ok x) = record { session = with_settings s x; event = Answered Done 0 }
+set_to s (Err e) = refused s BadSetting
 
-unfoldable pub setting : Session → SetAnswer → Stepped
+unfoldable pub setting : Session → Result Settings SettingError → Stepped
 setting s x = unless_runs s (set_to s x)

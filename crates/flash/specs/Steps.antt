@@ -1,13 +1,13 @@
 -- A step: what a session becomes when its transaction was answered.
-use Rattle.std.specs.Prelude.{ℕ, ◌+◌, ◌%◌, ◌^◌, Bool, true, false, cond, not, ◌&&◌, List, eqb, ltb, length}
+use Rattle.std.specs.Prelude.{ℕ, ◌+◌, ◌%◌, ◌^◌, Bool, true, false, cond, not, ◌&&◌, List, eqb, ltb, length, Result, Ok, Err}
+use Rattle.sfdp.specs.declared.FlashParams.{FlashParams}
+use Rattle.sfdp.specs.declared.SFDPError.{SFDPError}
 use Rattle.dwords.specs.Dwords.{byte_at}
 use Rattle.sfdp.specs.Jesd216.{read_table}
-use Rattle.sfdp.specs.declared.ReadParams.{ReadParams}
-use Rattle.sfdp.specs.declared.ReadParams.TheVariants as OfTable
 use Rattle.settings.specs.Limits.{page_of}
 use Rattle.settings.specs.Updated.{updated}
 use Rattle.commands.specs.declared.Answer.{Answer}
-use Rattle.commands.specs.declared.Answer.TheVariants.{Done, DoneBool, InvalidSFDPParams, Access, NoRoom}
+use Rattle.commands.specs.declared.Answer.TheVariants.{Done, DoneBool, Access, NoRoom}
 use Rattle.commands.specs.Transactions.{ready}
 use Rattle.phases.specs.declared.ReadCommand.{ReadCommand}
 use Rattle.phases.specs.declared.ReadCommand.TheVariants as Reads
@@ -23,6 +23,7 @@ use Rattle.phases.specs.declared.Phase.TheVariants.{Reading, Erasing, Writing, P
 use Rattle.phases.specs.Waits.{need_of}
 use Rattle.phases.specs.Moves.{after_read, ends_as, to_polls, last_written, next_erase, after_write, still_busy, verify_on, reset_on, room_after, is_ended}
 use Rattle.flash.specs.declared.Session.{Session}
+use Rattle.commands.specs.Answers.{refusal_of}
 use Rattle.flash.specs.declared.Event.TheVariants.{Answered}
 use Rattle.flash.specs.declared.Stepped.{Stepped}
 use Rattle.flash.specs.Waits.{entry_for, flagged, waits_on, told, in_phase}
@@ -35,9 +36,9 @@ abbrev pub ends : Session → ℕ → Command → Answer → Session
 ends s n c a = in_phase s (Ended c a) n
 
 -- ---- a read's reply: a table gives new parameters, and settings by them
-unfoldable pub with_table : Session → ℕ → ReadParams → Session
-with_table s n OfTable.InvalidSFDPParams = ends s n Ends.Other InvalidSFDPParams
-with_table s n (OfTable.Params p) = record { settings = updated s.settings p; known = true; params = p; phase = Ended Ends.Other Done; polls = n }
+unfoldable pub with_table : Session → ℕ → Result FlashParams SFDPError → Session
+with_table s n (Err e) = ends s n Ends.Other (refusal_of e)
+with_table s n (Ok p) = record { settings = updated s.settings p; known = true; params = p; phase = Ended Ends.Other Done; polls = n }
 
 unfoldable pub read_on : Session → ℕ → ReadCommand → List ℕ → Session
 read_on s n (Reads.Read legacy a k) r = goes s n (after_read (Reads.Read legacy a k) r)

@@ -1,7 +1,7 @@
 -- What a session waits on: the transaction of each phase, and what the host is told.
-use Rattle.std.specs.Prelude.{ℕ, ◌+◌, ◌/◌, Bool, true, false, cond, ◌&&◌, List, ltb}
+use Rattle.std.specs.Prelude.{ℕ, ◌+◌, ◌/◌, Bool, true, false, cond, ◌&&◌, List, ltb, Option}
 use Rattle.erase_plan.specs.declared.EraseType.{EraseType}
-use Rattle.erase_plan.specs.declared.Next.{Next}
+use Rattle.erase_plan.specs.declared.NextEntry.{NextEntry}
 use Rattle.erase_plan.specs.Types.{present}
 use Rattle.erase_plan.specs.Plan.{next_of}
 use Rattle.plans.specs.Available.{available}
@@ -20,7 +20,7 @@ use Rattle.flash.specs.declared.Stepped.{Stepped}
 abbrev pub types_of : Session → List EraseType
 types_of s = present (available s.settings s.known s.params)
 
-unfoldable pub entry_for : Session → ℕ → ℕ → Next
+unfoldable pub entry_for : Session → ℕ → ℕ → Option NextEntry
 entry_for s at last = next_of (types_of s) at (last + 1)
 
 unfoldable pub erase_tx : Session → EraseCommand → Transaction

@@ -8,11 +8,12 @@ mod reads;
 mod starts;
 mod step;
 
-ghost use Rattle.std.specs.Prelude.{◌≡◌};
-ghost use Rattle.flash.specs.Waits.{entry_for, erase_tx, page_pause, flagged, poll_tx, waits_on, event_of, told, in_phase};
+ghost use Rattle.std.specs.Prelude.{◌≡◌, not, ◌&&◌, ◌||◌};
+ghost use Rattle.erase_plan.specs.Types.{present};
+ghost use Rattle.flash.specs.Waits.{types_of, entry_for, erase_tx, page_pause, flagged, poll_tx, waits_on, event_of, told, in_phase};
 
 use commands::Answer;
-use erase_plan::Next;
+use erase_plan::{EraseTypes, NextEntry};
 use phases::{EraseCommand, Phase, Transaction, bare_tx};
 use settings::Settings;
 use sfdp::FlashParams;
@@ -40,31 +41,36 @@ pub struct Stepped {
     pub event: Event,
 }
 
-// What a start comes to, apart from its session: an answer that refuses it; Done at once; or the first phase, with the place in the
-// room where the data go.
+// What a start that is not refused comes to, apart from its session: Done at once; or the first phase, with the place in the room where
+// the data go.
 #[derive(Clone, Copy)]
 pub enum First {
-    Refused(Answer),
     Over,
     Goes(u64, Phase),
 }
 
 // ---- transactions
 
-// The plan's entry at a position of a range.
-pub fn entry_for(s: Session, at: u32, last: u32) -> Next
-    ensures { result ≡ entry_for s at last }
+// The erase types of a session.
+fn types_of(s: Session) -> EraseTypes
+    ensures { types_of s ≡ present result }
 {
-    let settings = s.settings;
-    let params = s.params;
-    erase_plan::next_entry(plans::erase_types(settings, s.known, params), at, last)
+    plans::erase_types(s.settings, s.known, s.params)
 }
 
+// The plan's entry at a position of a range.
+#[tactic(auto, unfolding(crate::specs::Waits::entry_for))]
+pub fn entry_for(s: Session, at: u32, last: u32) -> Option<NextEntry>
+    ensures { result ≡ entry_for s at last }
+{
+    erase_plan::next_entry(types_of(s), at, last)
+}
+
+#[tactic(auto, unfolding(crate::specs::Waits::erase_tx))]
 fn erase_tx(s: Session, c: EraseCommand) -> Transaction
     ensures { result ≡ erase_tx s c }
 {
-    let settings = s.settings;
-    let bytes = settings.address_bytes;
+    let bytes = s.settings.address_bytes;
     match c {
         EraseCommand::Chip => bare_tx(0xC7, 0),
         EraseCommand::Sectors(at, last) => phases::block_tx(bytes, entry_for(s, at, last)),
@@ -72,99 +78,91 @@ fn erase_tx(s: Session, c: EraseCommand) -> Transaction
     }
 }
 
+#[tactic(auto, using(std::proofs::lemmas::Bool::Decides::nat_tests), unfolding(crate::specs::Waits::page_pause))]
 fn page_pause(s: Session) -> u32
     ensures { result ≡ page_pause s }
 {
-    let params = s.params;
-    let timing = params.timing;
-    if s.known {
-        if params.jesd216a {
-            if 1000 < timing.page_prog_time_typ {
-                return timing.page_prog_time_typ / 2;
-            }
-        }
+    let typical = s.params.timing.page_prog_time_typ;
+    if s.known && s.params.jesd216a && 1000 < typical {
+        typical / 2
+    } else {
+        0
     }
-    0
 }
 
 // Whether polls go by the flag status register.
+#[tactic(auto, unfolding(crate::specs::Waits::flagged))]
 pub fn is_flagged(s: Session) -> bool
     ensures { result ≡ flagged s }
 {
-    let params = s.params;
-    if s.known {
-        params.busy_poll_flag
-    } else {
-        false
-    }
+    s.known && s.params.busy_poll_flag
 }
 
+// Whether a reset is by 66, 99: without parameters, and for a flash of the first revision too.
+pub fn resets_by_66(s: Session) -> bool
+    ensures { result ≡ (not (s.known && s.params.jesd216a) || s.params.reset_inst_66_99) }
+{
+    !(s.known && s.params.jesd216a) || s.params.reset_inst_66_99
+}
+
+#[tactic(auto, unfolding(crate::specs::Waits::poll_tx))]
 fn poll_tx(s: Session) -> Transaction
     ensures { result ≡ poll_tx s }
 {
-    let mut t = bare_tx(0x05, 1);
-    t.poll = true;
-    if is_flagged(s) {
-        t.opcode = 0x70;
+    let opcode = if is_flagged(s) { 0x70 } else { 0x05 };
+    Transaction {
+        poll: true,
+        ..bare_tx(opcode, 1)
     }
-    t
 }
 
 // The transaction that a phase waits on.
+#[tactic(auto, unfolding(crate::specs::Waits::waits_on))]
 pub fn waits_on(s: Session, p: Phase) -> Transaction
     ensures { result ≡ waits_on s p }
 {
-    let settings = s.settings;
     match p {
-        Phase::Reading { command } => phases::read_tx(settings, command),
-        Phase::Erasing { command, enabled } => {
-            if enabled {
-                erase_tx(s, command)
-            } else {
-                bare_tx(0x06, 0)
-            }
+        Phase::Reading { command } => phases::read_tx(s.settings, command),
+        Phase::Erasing {
+            command,
+            enabled: true,
+        } => erase_tx(s, command),
+        Phase::Writing {
+            command,
+            enabled: true,
+        } => phases::write_tx(s.settings, page_pause(s), command),
+        Phase::Erasing { enabled: false, .. } | Phase::Writing { enabled: false, .. } => {
+            bare_tx(0x06, 0)
         }
-        Phase::Writing { command, enabled } => {
-            if enabled {
-                phases::write_tx(settings, page_pause(s), command)
-            } else {
-                bare_tx(0x06, 0)
-            }
-        }
-        Phase::Polling {
-            command: _,
-            left: _,
-        } => poll_tx(s),
-        Phase::Verifying { command } => phases::verify_tx(settings.address_bytes, command),
+        Phase::Polling { .. } => poll_tx(s),
+        Phase::Verifying { command } => phases::verify_tx(s.settings.address_bytes, command),
         Phase::Resetting { command } => phases::reset_tx(command),
-        Phase::Ended {
-            command: _,
-            answer: _,
-        } => bare_tx(0, 0),
+        Phase::Ended { .. } => bare_tx(0, 0),
     }
 }
 
 // ---- what the host is told
 
 // Of a session in a phase, with so many polls.
+#[tactic(auto, using(crate::proofs::Phases::event_runs), unfolding(crate::specs::Waits::event_of))]
 pub fn event_at(s: Session, p: Phase, polls: u64) -> Event
     ensures { result ≡ event_of (in_phase s p polls) p }
 {
     match p {
-        Phase::Ended { command: _, answer } => Event::Answered(answer, polls),
+        Phase::Ended { answer, .. } => Event::Answered(answer, polls),
         _ => Event::Send(waits_on(s, p)),
     }
 }
 
 impl Session {
     // The session with its answer, or with the transaction that it waits on.
+    #[tactic(auto, unfolding(crate::specs::Waits::told))]
     pub fn tell(self) -> Stepped
         ensures { result ≡ told self }
     {
-        let p = self.phase;
         Stepped {
             session: self,
-            event: event_at(self, p, self.polls),
+            event: event_at(self, self.phase, self.polls),
         }
     }
 
@@ -172,14 +170,10 @@ impl Session {
     pub fn goes(self, p: Phase, polls: u64) -> Session
         ensures { result ≡ in_phase self p polls }
     {
-        let settings = self.settings;
-        let params = self.params;
         Session {
-            settings: settings,
-            known: self.known,
-            params: params,
             phase: p,
-            polls: polls,
+            polls,
+            ..self
         }
     }
 }

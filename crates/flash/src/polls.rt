@@ -5,9 +5,10 @@ ghost use Rattle.flash.specs.Steps.{after_erase, after_polls, poll_on};
 use crate::Session;
 use commands::Answer;
 use dwords::byte_at;
-use phases::{Command, EraseCommand, Phase, PollCommand};
+use phases::{EraseCommand, Phase, PollCommand, ends};
 
 // An erase is done: the plan's next entry, or what follows the plan.
+#[tactic(auto, unfolding(crate::specs::Steps::after_erase, phases::specs::Moves::next_erase))]
 fn after_erase(s: Session, c: EraseCommand, work: &[u8]) -> Phase
     ensures { result ≡ after_erase s c work.now }
 {
@@ -22,21 +23,19 @@ fn after_erase(s: Session, c: EraseCommand, work: &[u8]) -> Phase
     }
 }
 
+#[tactic(auto, unfolding(crate::specs::Steps::after_polls))]
 fn after_polls(s: Session, c: PollCommand, work: &[u8]) -> Phase
     ensures { result ≡ after_polls s c work.now }
 {
-    let settings = s.settings;
     match c {
-        PollCommand::Once => Phase::Ended {
-            command: Command::Other,
-            answer: Answer::DoneBool(false),
-        },
+        PollCommand::Once => ends::over(Answer::DoneBool(false)),
         PollCommand::Erase(e) => after_erase(s, e, work),
-        PollCommand::Write(w) => phases::polls::after_write(settings.page(), w),
+        PollCommand::Write(w) => phases::polls::after_write(s.settings.page(), w),
     }
 }
 
 // A poll's reply.
+#[tactic(auto, unfolding(crate::specs::Steps::poll_on))]
 pub fn poll_on(s: Session, c: PollCommand, left: u16, reply: &[u8], work: &[u8]) -> Phase
     ensures { result ≡ poll_on s c left reply.now work.now }
 {

@@ -1,46 +1,32 @@
 // The step.
-ghost use Rattle.std.specs.Prelude.{◌≡◌, true, false, ℕ};
-ghost use Rattle.phases.specs.Moves.{is_ended, of_table, room_after};
-ghost use Rattle.flash.specs.Steps.{goes, advanced, step_of};
-ghost use Rattle.flash.specs.Waits.{told};
+ghost use Rattle.std.specs.Prelude.{◌≡◌};
+ghost use Rattle.flash.specs.Steps.{advanced, step_of};
 
 use crate::{Event, Session, Stepped, polls, reads};
 use commands::Answer;
-use phases::{Phase, ReadCommand, ends, replies};
-use sfdp::FlashParams;
+use phases::{Phase, ends, replies};
 
-// The phase after a full reply that is no table.
-fn advance(s: Session, p: Phase, reply: &[u8], work: &[u8]) -> Phase
-    ensures { (n : ℕ) → of_table p ≡ false → is_ended p ≡ false → advanced s n p reply.now work.now ≡ goes s n result }
+// The session after a full reply.
+#[tactic(auto, unfolding(crate::specs::Steps::advanced))]
+fn advance(s: Session, n: u64, p: Phase, reply: &[u8], work: &[u8]) -> Session
+    ensures { result ≡ advanced s n p reply.now work.now }
 {
-    let settings = s.settings;
-    let limit = settings.poll_limit;
+    let limit = s.settings.poll_limit;
     match p {
-        Phase::Reading { command } => phases::reads::read_on(command, reply),
-        Phase::Erasing { command, enabled } => replies::erase_on(limit, command, enabled),
-        Phase::Writing { command, enabled } => replies::write_on(limit, command, enabled),
-        Phase::Polling { command, left } => polls::poll_on(s, command, left, reply, work),
-        Phase::Verifying { command } => replies::verify_on(command, reply, work),
-        Phase::Resetting { command } => phases::polls::reset_on(command),
-        Phase::Ended {
-            command: _,
-            answer: _,
-        } => p,
-    }
-}
-
-// A table was read.
-fn table_on(s: Session, n: u64, p: Phase, reply: &[u8], work: &mut [u8]) -> Stepped
-    ensures { of_table p ≡ true → (result ≡ told (advanced s n p reply.now work.old)) × (work.new ≡ room_after p reply.now work.old) }
-{
-    if let Phase::Reading { command } = p {
-        if let ReadCommand::Table(minor, plen, _) = command {
-            let next = reads::with_table(s, n, FlashParams::from_bytes(minor, plen, reply));
-            room::lay(work, 0, reply);
-            return next.tell();
+        Phase::Reading { command } => reads::read_on(s, n, command, reply),
+        Phase::Erasing { command, enabled } => {
+            s.goes(replies::erase_on(limit, command, enabled), n)
         }
+        Phase::Writing { command, enabled } => {
+            s.goes(replies::write_on(limit, command, enabled), n)
+        }
+        Phase::Polling { command, left } => {
+            s.goes(polls::poll_on(s, command, left, reply, work), n)
+        }
+        Phase::Verifying { command } => s.goes(replies::verify_on(command, reply, work), n),
+        Phase::Resetting { command } => s.goes(phases::polls::reset_on(command), n),
+        Phase::Ended { .. } => s,
     }
-    s.tell()
 }
 
 impl Session {
@@ -61,15 +47,9 @@ impl Session {
             };
         }
         if replies::is_full(failed, reply.len() as u64, p) {
-            if replies::of_table(p) {
-                return table_on(self, n, p, reply, work);
-            }
-            let q = advance(self, p, reply, work);
+            let next = advance(self, n, p, reply, work);
             replies::keep(p, reply, work);
-            return Stepped {
-                session: self.goes(q, n),
-                event: crate::event_at(self, q, n),
-            };
+            return next.tell();
         }
         reads::ended(self, n, ends::ends_as(p), Answer::Access).tell()
     }

@@ -1,22 +1,21 @@
 -- What a step hands back: a session that fits, that needs no more room, and a room as long as before.
+use Rattle.std.proofs.Common.{Some, None, Option, Result, Ok as Read, Err as Unread}
 use mathlib.Core.Path.{◌≡◌, refl}
 use mathlib.Core.Bool.{true, false, cond}
 use mathlib.Core.List.{List}
-use mathlib.Core.Option.{Option, some, none}
 use Prim.Native.Nat.{ℕ, ◌+◌, ◌-◌, ◌≤◌, ◌<◌}
 use native.Mathlib.Omega.{arith}
 use lib.Dec.{eqb, ltb, leb}
 use lib.ListN.{length, take, drop, length-append, length-take, length-drop}
 use borrow.Author.Tests.{ltb-true, leb-true}
+use Rattle.sfdp.specs.declared.FlashParams.{FlashParams}
+use Rattle.sfdp.specs.declared.SFDPParameterHeader.{SFDPParameterHeader}
+use Rattle.sfdp.specs.declared.SFDPError.{SFDPError}
+use Rattle.sfdp.specs.declared.SFDPError.TheVariants as Refusal
 use Rattle.dwords.specs.Dwords.{byte_at}
 use Rattle.sfdp.specs.Jesd216.{signed, basic, parameter_header, read_header, read_table}
-use Rattle.sfdp.specs.declared.ReadHeader.{ReadHeader}
-use Rattle.sfdp.specs.declared.ReadHeader.TheVariants as OfHeader
-use Rattle.sfdp.specs.declared.ReadParams.{ReadParams}
-use Rattle.sfdp.specs.declared.ReadParams.TheVariants as OfTable
 use Rattle.settings.specs.Limits.{page_of}
-use Rattle.erase_plan.specs.declared.Next.{Next}
-use Rattle.erase_plan.specs.declared.Next.TheVariants.{Nothing, Entry}
+use Rattle.erase_plan.specs.declared.NextEntry.{NextEntry}
 use Rattle.erase_plan.proofs.Lists.{by_cond, no_false}
 use Rattle.commands.specs.declared.Answer.{Answer}
 use Rattle.commands.specs.declared.Answer.TheVariants.{Done, Busy}
@@ -105,28 +104,26 @@ program_begins s J o n =
     (λ t. to_after_lem s J (J.top + 1 - J.base) o n (omega arith)))
 
 -- a header's table has fewer than 256 dwords
-abbrev Small : ReadHeader → Type 0
-Small OfHeader.NoSFDP = Unit {0}
-Small OfHeader.InvalidSFDPHeader = Unit {0}
-Small (OfHeader.Header h) = h.plen < 256
+abbrev Small : Result SFDPParameterHeader SFDPError → Type 0
+Small (Unread e) = Unit {0}
+Small (Read h) = h.plen < 256
 
 header_small : (r : List ℕ) → Bytes r → Small (read_header r)
 unfolding read_header parameter_header
 header_small r b =
-    by_cond Small (signed r) (cond (basic (parameter_header r 8)) (OfHeader.Header (parameter_header r 8)) OfHeader.InvalidSFDPHeader) OfHeader.NoSFDP
-    (λ t. by_cond Small (basic (parameter_header r 8)) (OfHeader.Header (parameter_header r 8)) OfHeader.InvalidSFDPHeader (λ u. b.below 11) (λ u. tt))
+    by_cond Small (signed r) (cond (basic (parameter_header r 8)) (Read (parameter_header r 8)) (Unread Refusal.InvalidSFDPHeader)) (Unread Refusal.NoSFDP)
+    (λ t. by_cond Small (basic (parameter_header r 8)) (Read (parameter_header r 8)) (Unread Refusal.InvalidSFDPHeader) (λ u. b.below 11) (λ u. tt))
     (λ t. tt)
 
-headed : (s : Session) (n : ℕ) (h : ReadHeader) → Small h → Within 2056 (goes s n (with_header h))
+headed : (s : Session) (n : ℕ) (h : Result SFDPParameterHeader SFDPError) → Small h → Within 2056 (goes s n (with_header h))
 unfolding with_header need_of read_need
-headed s n OfHeader.NoSFDP o = record { fits = tt; most = omega arith }
-headed s n OfHeader.InvalidSFDPHeader o = record { fits = tt; most = omega arith }
-headed s n (OfHeader.Header h) o = record { fits = o; most = omega arith }
+headed s n (Unread e) o = record { fits = tt; most = omega arith }
+headed s n (Read h) o = record { fits = o; most = omega arith }
 
-tabled : (s : Session) (n : ℕ) (t : ReadParams) → Within 2056 (with_table s n t)
+tabled : (s : Session) (n : ℕ) (t : Result FlashParams SFDPError) → Within 2056 (with_table s n t)
 unfolding with_table need_of
-tabled s n OfTable.InvalidSFDPParams = record { fits = tt; most = omega arith }
-tabled s n (OfTable.Params p) = record { fits = tt; most = omega arith }
+tabled s n (Unread e) = record { fits = tt; most = omega arith }
+tabled s n (Read p) = record { fits = tt; most = omega arith }
 
 read_on_lem : (s : Session) (n : ℕ) (c : ReadCommand) (r : List ℕ) → Bytes r → FitRead s c → Within (read_need c) (read_on s n c r)
 unfolding read_on after_read read_need need_of erase_need
@@ -159,11 +156,11 @@ last_written_lem J room o =
     by_cond (λ (x : ℕ). J.base + x ≤ J.top) (blank (take (J.top - J.last) (drop (J.last + 1 - J.base) room))) (J.last - J.base) (J.top - J.base)
     (λ t. omega arith) (λ t. omega arith)
 
-next_erase_lem : (s : Session) (need : ℕ) (o : Next) (last : ℕ) (on : ℕ → Phase) (over' : Phase)
+next_erase_lem : (s : Session) (need : ℕ) (o : Option NextEntry) (last : ℕ) (on : ℕ → Phase) (over' : Phase)
     → ((q : ℕ) → Ok s need (on q)) → Ok s need over' → Ok s need (next_erase o last on over')
 unfolding next_erase
-next_erase_lem s need Nothing last on over' f g = g
-next_erase_lem s need (Entry e stop) last on over' f g = by_cond (Ok s need) (ltb stop last) (on (stop + 1)) over' (λ t. f (stop + 1)) (λ t. g)
+next_erase_lem s need None last on over' f g = g
+next_erase_lem s need (Some e) last on over' f g = by_cond (Ok s need) (ltb e.stop last) (on (e.stop + 1)) over' (λ t. f (e.stop + 1)) (λ t. g)
 
 after_erase_lem : (s : Session) (c : EraseCommand) (room : List ℕ) → FitErase c → Ok s (erase_need c) (after_erase s c room)
 unfolding after_erase erase_need need_of write_need
@@ -220,8 +217,8 @@ poll_on_lem s c left r room o =
 -- ---- verify
 judged_ok : (s : Session) (J : Job) (x : Option Mismatch) → Ordered J → Ok s (J.top + 1 - J.base) (judged J x)
 unfolding judged need_of verify_need
-judged_ok s J none o = record { fit = tt; most = omega arith }
-judged_ok s J (some m) o = record { fit = o; most = omega arith }
+judged_ok s J None o = record { fit = tt; most = omega arith }
+judged_ok s J (Some m) o = record { fit = o; most = omega arith }
 
 verify_on_lem : (s : Session) (c : VerifyCommand) (r room : List ℕ) → FitVerify c → Ok s (verify_need c) (verify_on c r room)
 unfolding verify_on verify_need

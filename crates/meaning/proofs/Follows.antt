@@ -1,4 +1,5 @@
 -- The step of every running session, and the host that goes by the events.
+use Rattle.std.proofs.Common.{Result, Ok, Err}
 use mathlib.Core.Path.{◌≡◌, refl, sym, ap, ◌∙◌}
 use mathlib.Core.Bool.{Bool, true, false, cond}
 use mathlib.Core.List.{List, [], ◌∷◌}
@@ -6,9 +7,9 @@ use mathlib.Core.Option.{Option, none}
 use Prim.Native.Nat.{ℕ, ◌+◌, ◌^◌, ◌≤◌, ◌<◌}
 use native.Mathlib.Omega.{arith}
 use lib.ListN.{length}
+use Rattle.sfdp.specs.declared.FlashParams.{FlashParams}
+use Rattle.sfdp.specs.declared.SFDPError.{SFDPError}
 use Rattle.sfdp.specs.Jesd216.{read_table}
-use Rattle.sfdp.specs.declared.ReadParams.{ReadParams}
-use Rattle.sfdp.specs.declared.ReadParams.TheVariants as OfTable
 use Rattle.erase_plan.specs.Good.{Each}
 use Rattle.erase_plan.proofs.Lists.{no_true, no_false}
 use Rattle.commands.specs.declared.Answer.{Answer}
@@ -49,10 +50,10 @@ pub step_means : StepMeans
 step_means s room o e h b = phase_means s.phase s s.polls room o e h b
 
 -- ---- polls: the next session has those that were counted
-tabled_polls : (s : Session) (n : ℕ) (t : ReadParams) → (with_table s n t).polls ≡ n
+tabled_polls : (s : Session) (n : ℕ) (t : Result FlashParams SFDPError) → (with_table s n t).polls ≡ n
 unfolding with_table
-tabled_polls s n OfTable.InvalidSFDPParams = refl
-tabled_polls s n (OfTable.Params p) = refl
+tabled_polls s n (Err e) = refl
+tabled_polls s n (Ok p) = refl
 
 read_polls : (s : Session) (n : ℕ) (c : ReadCommand) (r : List ℕ) → (read_on s n c r).polls ≡ n
 unfolding read_on

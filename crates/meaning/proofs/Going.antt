@@ -1,4 +1,5 @@
 -- Where a command goes on: each piece of a script that follows an operation or a read is what a phase means.
+use Rattle.std.proofs.Common.{Some, None, Option}
 use mathlib.Core.Path.{◌≡◌, refl, sym, ap, ◌∙◌}
 use mathlib.Core.Bool.{Bool, true, false, cond}
 use mathlib.Core.List.{List}
@@ -8,8 +9,7 @@ use lib.Dec.{ltb}
 use lib.ListN.{length, take, drop}
 use borrow.Author.Tests.{lt-ltb, le-ltb, ltb-true, ltb-false}
 use Rattle.settings.specs.Limits.{page_of}
-use Rattle.erase_plan.specs.declared.Next.{Next}
-use Rattle.erase_plan.specs.declared.Next.TheVariants.{Nothing, Entry}
+use Rattle.erase_plan.specs.declared.NextEntry.{NextEntry}
 use Rattle.erase_plan.specs.Plan.{next_of}
 use Rattle.erase_plan.proofs.Lists.{by_cond}
 use Rattle.erase_plan.proofs.Steps.{Found, found}
@@ -103,11 +103,12 @@ next_entry : (w : Kept) (p last : ℕ) (K : Unit {0} → Cmd Answer) (on : ℕ �
 unfolding next_erase
 next_entry w p last K on over' more end = by (next_of (types_of w) p (last + 1)) refl
   where
-    by : (o : Next) → next_of (types_of w) p (last + 1) ≡ o
+    by : (o : Option NextEntry) → next_of (types_of w) p (last + 1) ≡ o
         → after (each erase_one (plan_of w (past_entry o (last + 1)) (last + 1)) w) K ≡ rest (next_erase o last on over') w
-    by Nothing e = no_entries w (last + 1) (last + 1) K (omega arith) ∙ end
-    by (Entry x s) e =
-        let f : Found (types_of w) p (last + 1) x s = found (types_of w) p (last + 1) x s e in
+    by None e = no_entries w (last + 1) (last + 1) K (omega arith) ∙ end
+    by (Some x) e =
+        let s = x.stop in
+        let f : Found (types_of w) p (last + 1) x = found (types_of w) p (last + 1) x e in
         by_cond (λ (q : Phase). after (each erase_one (plan_of w (s + 1) (last + 1)) w) K ≡ rest q w) (ltb s last) (on (s + 1)) over'
         (λ t. more (s + 1) (omega (arith, ltb-true s last t)) (rw f.are (omega arith)))
         (λ t. no_entries w (s + 1) (last + 1) K (omega (arith, ltb-false s last t)) ∙ end)

@@ -1,4 +1,5 @@
 -- The reads' steps.
+use Rattle.std.proofs.Common.{Result, Ok, Err}
 use mathlib.Core.Path.{◌≡◌, refl, ap, ◌∙◌}
 use mathlib.Core.Bool.{Bool, true, false, cond}
 use mathlib.Core.List.{List}
@@ -7,12 +8,11 @@ use native.Mathlib.Omega.{arith}
 use native.Mathlib.Nat.{mod-eq_of_lt}
 use lib.Dec.{eqb}
 use lib.ListN.{length}
+use Rattle.sfdp.specs.declared.FlashParams.{FlashParams}
+use Rattle.sfdp.specs.declared.SFDPParameterHeader.{SFDPParameterHeader}
+use Rattle.sfdp.specs.declared.SFDPError.{SFDPError}
 use Rattle.dwords.specs.Dwords.{byte_at}
 use Rattle.sfdp.specs.Jesd216.{read_header, read_table}
-use Rattle.sfdp.specs.declared.ReadHeader.{ReadHeader}
-use Rattle.sfdp.specs.declared.ReadHeader.TheVariants as OfHeader
-use Rattle.sfdp.specs.declared.ReadParams.{ReadParams}
-use Rattle.sfdp.specs.declared.ReadParams.TheVariants as OfTable
 use Rattle.settings.specs.declared.Settings.{Settings}
 use Rattle.commands.specs.Script.{done, after, give, ask, over}
 use Rattle.commands.specs.Host.{tree}
@@ -43,16 +43,15 @@ either_reply true s a k = refl
 either_reply false s a k = refl
 
 -- ---- what a header, a table or an ID leads to
-headed_means : (s : Session) (m : ℕ) (room : List ℕ) (h : ReadHeader) → tree m (with_header h (kept_of s room)) ≡ meaning (goes s m (headed h)) room
+headed_means : (s : Session) (m : ℕ) (room : List ℕ) (h : Result SFDPParameterHeader SFDPError) → tree m (with_header h (kept_of s room)) ≡ meaning (goes s m (headed h)) room
 unfolding headed meaning rest reads_on tree
-headed_means s m room OfHeader.NoSFDP = refl
-headed_means s m room OfHeader.InvalidSFDPHeader = refl
-headed_means s m room (OfHeader.Header h) = refl
+headed_means s m room (Err e) = refl
+headed_means s m room (Ok h) = refl
 
-tabled_means : (s : Session) (m : ℕ) (room : List ℕ) (t : ReadParams) → tree m (with_table t (kept_of s room)) ≡ meaning (tabled s m t) room
+tabled_means : (s : Session) (m : ℕ) (room : List ℕ) (t : Result FlashParams SFDPError) → tree m (with_table t (kept_of s room)) ≡ meaning (tabled s m t) room
 unfolding tabled meaning rest after tree
-tabled_means s m room OfTable.InvalidSFDPParams = refl
-tabled_means s m room (OfTable.Params p) = refl
+tabled_means s m room (Err e) = refl
+tabled_means s m room (Ok p) = refl
 
 again_means : (s : Session) (m : ℕ) (room : List ℕ) (r : List ℕ) (t : Bool)
     → tree m (cond t (after (ask (plain 0x9F 16) (kept_of s room)) (λ r'. give (first_id 13 1 r'))) (done (kept_of s room) (id_at 0 r)))

@@ -1,4 +1,5 @@
 -- What a session means: what is still to come of its command's script, phase by phase; and the sessions that are handed back.
+use Rattle.std.proofs.Common.{Some, None, Option}
 use Prim.Native.Nat.{ℕ, suc, ◌+◌, ◌-◌, ◌*◌, ◌≤◌, ◌<◌, ◌^◌}
 use mathlib.Core.Path.{◌≡◌}
 use mathlib.Core.Bool.{Bool, true, false, cond, not}
@@ -8,8 +9,7 @@ use lib.ListN.{length, take}
 use Rattle.dwords.specs.Dwords.{byte_at, bits}
 use Rattle.sfdp.specs.Jesd216.{headers, read_header, read_table}
 use Rattle.settings.specs.Limits.{page_of}
-use Rattle.erase_plan.specs.declared.Next.{Next}
-use Rattle.erase_plan.specs.declared.Next.TheVariants.{Nothing, Entry}
+use Rattle.erase_plan.specs.declared.NextEntry.{NextEntry}
 use Rattle.erase_plan.specs.Plan.{next_of}
 use Rattle.commands.specs.declared.Answer.{Answer}
 use Rattle.commands.specs.declared.Answer.TheVariants.{Done, DoneBool, ReadbackError}
@@ -79,9 +79,9 @@ reads_on Reads.Protected = do
   give (DoneBool (not (eqb (bits (byte_at r 0) 4 2) 0)))
 
 -- an erase: its transaction, and what follows when it is done
-abbrev pub block_sent : Kept → Next → Sent
-block_sent w Nothing = at 0 w.settings.address_bytes 0 false 0
-block_sent w (Entry e until) = erase_block w.settings e
+abbrev pub block_sent : Kept → Option NextEntry → Sent
+block_sent w None = at 0 w.settings.address_bytes 0 false 0
+block_sent w (Some e) = erase_block w.settings e.entry
 
 unfoldable pub erase_sent : Kept → EraseCommand → Sent
 erase_sent w Erases.Chip = plain 0xC7 0
@@ -89,9 +89,9 @@ erase_sent w (Erases.Sectors p last) = block_sent w (next_of (types_of w) p (las
 erase_sent w (Erases.Program J p) = block_sent w (next_of (types_of w) p (J.last + 1))
 
 -- the position after an entry; without one, the range's end
-abbrev pub past_entry : Next → ℕ → ℕ
-past_entry Nothing end = end
-past_entry (Entry e until) end = until + 1
+abbrev pub past_entry : Option NextEntry → ℕ → ℕ
+past_entry None end = end
+past_entry (Some e) end = e.stop + 1
 
 unfoldable pub erase_then : EraseCommand → Cmd Answer
 erase_then Erases.Chip = give Done

@@ -1,4 +1,5 @@
 -- The starts: each gives what its command's script begins with.
+use Rattle.std.proofs.Common.{Result, Ok, Err}
 use mathlib.Core.Path.{◌≡◌, refl, sym, ap, ◌∙◌}
 use mathlib.Core.Bool.{Bool, true, false, cond, not, ◌&&◌, ◌||◌}
 use mathlib.Core.List.{List, [], ◌∷◌}
@@ -12,8 +13,6 @@ use Rattle.erase_plan.proofs.Lists.{no_true}
 use Rattle.settings.proofs.Laws.{accepted_nonempty, accepted_32}
 use Rattle.erase_plan.specs.declared.EraseType.{EraseType}
 use Rattle.erase_plan.specs.declared.EraseEntry.{EraseEntry}
-use Rattle.erase_plan.specs.declared.SpanCheck.{SpanCheck}
-use Rattle.erase_plan.specs.declared.SpanCheck.TheVariants as Span
 use Rattle.erase_plan.specs.Plan.{plan}
 use Rattle.erase_plan.specs.Span.{span_start, span_end, survey_of, span_check}
 use Rattle.commands.specs.declared.Answer.{Answer}
@@ -113,11 +112,11 @@ module _ (s : Session) (idle : Idle s) where
       on [] g = refusal room NoEraseInstruction
       on (u ∷ us) g = rw (ne_eqb (suc (length us)) 0 (omega arith)) (g (omega arith))
 
-  span_fits_lem : (o : SpanCheck) (x : Stepped) (room : List ℕ) (k : Unit {0} → Cmd Answer) → Begun x room (k tt (kept_of s room))
+  span_fits_lem : (o : Result (Unit {0}) ℕ) (x : Stepped) (room : List ℕ) (k : Unit {0} → Cmd Answer) → Begun x room (k tt (kept_of s room))
       → Begun (span_fits s o x) room (after (spans o (kept_of s room)) k)
   unfolding after
-  span_fits_lem Span.Fits x room k h = h
-  span_fits_lem (Span.Bad a) x room k h = refusal room (bad_range a)
+  span_fits_lem (Ok _) x room k h = h
+  span_fits_lem (Err a) x room k h = refusal room (bad_range a)
 
 -- ---- the commands without data
 module _ (s : Session) (room : List ℕ) (idle : Idle s) where

@@ -1,4 +1,5 @@
 -- Scripts, plans and page parts, one piece at a time.
+use Rattle.std.proofs.Common.{Some, None, Option}
 use mathlib.Core.Path.{◌≡◌, refl, sym, ap, ◌∙◌, fun_ext}
 use mathlib.Core.Bool.{Bool, true, false, cond}
 use mathlib.Core.List.{List, [], ◌∷◌}
@@ -14,8 +15,7 @@ use Rattle.settings.specs.declared.Settings.{Settings}
 use Rattle.settings.specs.Limits.{page_of}
 use Rattle.erase_plan.specs.declared.EraseType.{EraseType}
 use Rattle.erase_plan.specs.declared.EraseEntry.{EraseEntry}
-use Rattle.erase_plan.specs.declared.Next.{Next}
-use Rattle.erase_plan.specs.declared.Next.TheVariants.{Entry}
+use Rattle.erase_plan.specs.declared.NextEntry.{NextEntry}
 use Rattle.erase_plan.specs.Good.{Each, Present}
 use Rattle.erase_plan.specs.Plan.{next_of, entry_at, next_pos}
 use Rattle.erase_plan.proofs.Lists.{lt_or_le}
@@ -52,15 +52,15 @@ op_on {B} x w k h e = ap (λ (z : Script B). send w write_enable (λ r. send w x
 
 -- ---- plans
 -- a position of the range has an entry where there is a type, and the plan from past it on
-pub has_entry : (ts : List EraseType) (p last : ℕ) → p ≤ last → 0 < length ts → next_of ts p (last + 1) ≡ Entry (entry_at ts p (last + 1)) (next_pos ts p (last + 1) - 1)
+pub has_entry : (ts : List EraseType) (p last : ℕ) → p ≤ last → 0 < length ts → next_of ts p (last + 1) ≡ Some (record { entry = entry_at ts p (last + 1); stop = next_pos ts p (last + 1) - 1 })
 has_entry [] p last h n = absurd (omega arith)
 has_entry (t ∷ ts) p last h n = next_some t ts p (last + 1) (omega arith)
 
 pub types_present : (w : Kept) → Each Present (types_of w)
 types_present w = present_present (available w.settings w.known w.params)
 
-pub entry_unrolls : (w : Kept) (p end : ℕ) (e : EraseEntry) (s : ℕ) → next_of (types_of w) p end ≡ Entry e s → Unrolled (types_of w) p end e s
-entry_unrolls w p end e s h = plan_entry (types_of w) (types_present w) p end e s h
+pub entry_unrolls : (w : Kept) (p end : ℕ) (x : NextEntry) → next_of (types_of w) p end ≡ Some x → Unrolled (types_of w) p end x
+entry_unrolls w p end x h = plan_entry (types_of w) (types_present w) p end x h
 
 -- a plan's erases are its first entry's operation and the others
 pub go_entries : (w : Kept) (p last : ℕ) (K : Unit {0} → Cmd Answer) (next : Cmd Answer) → p ≤ last → 0 < length (types_of w)
@@ -75,13 +75,13 @@ go_entries w p last K next h n e = on (next_of (types_of w) p (last + 1)) (has_e
     stop' : ℕ
     stop' = next_pos (types_of w) p (last + 1) - 1
 
-    on : (o : Next) → o ≡ Entry x stop' → next w ≡ after (each erase_one (plan_of w (past_entry o (last + 1)) (last + 1)) w) K
+    on : (o : Option NextEntry) → o ≡ Some (record { entry = x; stop = stop' }) → next w ≡ after (each erase_one (plan_of w (past_entry o (last + 1)) (last + 1)) w) K
         → after (each erase_one (plan_of w p (last + 1)) w) K ≡ after (operation (block_sent w o) w) (λ u. next)
     on o i e =
-        ap (λ (l : List EraseEntry). after (each erase_one l w) K) (entry_unrolls w p (last + 1) x stop' (has_entry (types_of w) p last h n)).unrolls
+        ap (λ (l : List EraseEntry). after (each erase_one l w) K) (entry_unrolls w p (last + 1) _ (has_entry (types_of w) p last h n)).unrolls
         ∙ after_after (erase_one x w) (λ u. each erase_one (plan_of w (stop' + 1) (last + 1))) K
         ∙ op_on (erase_block w.settings x) w (λ u w'. after (each erase_one (plan_of w (stop' + 1) (last + 1)) w') K) (λ u. next) (sym (rw i at e))
-        ∙ ap (λ (z : Next). after (operation (block_sent w z) w) (λ u. next)) (sym i)
+        ∙ ap (λ (z : Option NextEntry). after (operation (block_sent w z) w) (λ u. next)) (sym i)
 
 -- past the end there is nothing to erase
 pub no_entries : (w : Kept) (p end : ℕ) (K : Unit {0} → Cmd Answer) → end ≤ p → after (each erase_one (plan_of w p end) w) K ≡ K tt w

@@ -1,4 +1,5 @@
 -- The steps of erases, page writes, polls, verifies and resets.
+use Rattle.std.proofs.Common.{Some, None, Option}
 use mathlib.Core.Path.{◌≡◌, refl, sym, ap, ◌∙◌}
 use mathlib.Core.Bool.{Bool, true, false, cond, not}
 use mathlib.Core.List.{List, [], ◌∷◌}
@@ -12,8 +13,7 @@ use lib.Seq.{length-take-le}
 use borrow.Author.Tests.{ne_eqb}
 use Rattle.dwords.specs.Dwords.{byte_at}
 use Rattle.settings.specs.Limits.{page_of}
-use Rattle.erase_plan.specs.declared.Next.{Next}
-use Rattle.erase_plan.specs.declared.Next.TheVariants.{Nothing, Entry}
+use Rattle.erase_plan.specs.declared.NextEntry.{NextEntry}
 use Rattle.commands.specs.declared.Answer.{Answer}
 use Rattle.commands.specs.declared.Answer.TheVariants.{Done, DoneBool, ReadbackError, Busy}
 use Rattle.commands.specs.Script.{Kept, done, stop, Cmd, after, give}
@@ -47,10 +47,10 @@ use Rattle.meaning.proofs.Stepping.{part_fits, part_none, sent_bare, sent_addres
 use Rattle.meaning.proofs.Going.{erase_next, write_next}
 
 -- ---- the transactions
-block_sent_lem : (s : Session) (room : List ℕ) (o : Next) → sent_of (block_tx s.settings.address_bytes o) room ≡ block_sent (kept_of s room) o
+block_sent_lem : (s : Session) (room : List ℕ) (o : Option NextEntry) → sent_of (block_tx s.settings.address_bytes o) room ≡ block_sent (kept_of s room) o
 unfolding block_tx
-block_sent_lem s room Nothing = sent_addressed 0 s.settings.address_bytes 0 false 0 room
-block_sent_lem s room (Entry e until) = rw (part_none room)
+block_sent_lem s room None = sent_addressed 0 s.settings.address_bytes 0 false 0 room
+block_sent_lem s room (Some e) = rw (part_none room)
 
 erase_sent_lem : (s : Session) (room : List ℕ) (c : EraseCommand) → sent_of (erase_tx s c) room ≡ erase_sent (kept_of s room) c
 unfolding erase_tx erase_sent entry_for
@@ -174,7 +174,7 @@ differs_means J m w i (x ∷ l) (y ∷ r) h =
 
     on : (t : Bool) → tree m (after (judge (mismatch (suc (J.base + i)) l r) w) (λ u. give Done)) ≡ tree m (rest (judged J (first_differs J.base (suc i) l r)) w)
         → tree m (after (judge (elim t [ true ↦ mismatch (suc (J.base + i)) l r | false ↦ some (ReadbackError (J.base + i) x y) ]) w) (λ u. give Done))
-        ≡ tree m (rest (judged J (elim t [ true ↦ first_differs J.base (suc i) l r | false ↦ some (record { address = (J.base + i) % 2 ^ 32; wrote = x; read = y }) ])) w)
+        ≡ tree m (rest (judged J (elim t [ true ↦ first_differs J.base (suc i) l r | false ↦ Some (record { address = (J.base + i) % 2 ^ 32; wrote = x; read = y }) ])) w)
     on true k = k
     on false k = rw at_is
 

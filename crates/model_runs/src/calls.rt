@@ -1,184 +1,154 @@
-// Commands: drawn, started, carried out, and judged against the replay.
-use crate::runs::{Run, World};
+// Commands: drawn, and judged against the replay.
+use crate::image;
+use crate::runs::Verdict;
 use crate::shapes::Shape;
-use crate::{image, shapes};
+use commands::Answer;
 use flash::Event;
-use nor_part::State;
-use part_host::source::Numbers;
-use part_host::{Call, Play, source};
+use part_host::source::{Numbers, among};
+use part_host::{Command, Play, Range};
 
-const READ_PARAMS: u8 = 2;
+// A command, and how many bytes of room are lent for it.
+#[derive(Clone, Copy)]
+pub struct Call {
+    pub command: Command,
+    pub room: u64,
+}
 
 // read_params with all the room.
-pub fn first_call() -> Call {
-    Call {
-        kind: READ_PARAMS,
-        address: 0,
-        length: 0,
-        verify: false,
-        room: 4096,
-    }
-}
+pub const FIRST: Call = Call {
+    command: Command::ReadParams,
+    room: 4096,
+};
 
 // ---- drawn
-
-fn kind(x: u64) -> u8 {
-    match x % 20 {
-        0 | 1 | 2 => 0,
-        3 => 1,
-        4 => 2,
-        5 => 3,
-        6 | 7 | 8 => 4,
-        9 | 10 | 11 | 12 | 13 => 5,
-        14 | 15 => 6,
-        16 => 7,
-        17 => 8,
-        18 => 9,
-        _ => 10,
-    }
-}
 
 // Below the capacity, one in 16 up to a bit past it.
 fn address(x: u64, capacity: u32) -> u32 {
     if x % 16 == 0 {
-        source::among(x / 16, capacity, 64)
+        among(x / 16, capacity, 64)
     } else {
-        source::among(x / 16, 0, capacity)
+        among(x / 16, 0, capacity)
     }
 }
 
-// Up to 200, one in 16 of them 0; or any up to past the capacity.
-fn length(x: u64, kind: u8) -> u64 {
-    if x % 16 == 0 {
-        return 0;
-    }
-    if (kind < 2) & (x % 16 < 4) {
-        return source::among(x / 16, 1, 4200) as u64;
-    }
-    source::among(x / 16, 1, 200) as u64
-}
-
-fn drawn(n: Numbers, shape: Shape) -> Call {
-    let k = kind(n.a);
-    Call {
-        kind: k,
-        address: address(n.b, shape.capacity),
-        length: length(n.c, k),
-        verify: n.d % 2 == 0,
-        room: if n.e % 16 == 0 { n.f % 256 } else { 4096 },
+// Up to 200, one in 16 of them 0, and three in 16 up to so many.
+fn length(x: u64, most: u32) -> u64 {
+    match x % 16 {
+        0 => 0,
+        1..=3 => among(x / 16, 1, most) as u64,
+        _ => among(x / 16, 1, 200) as u64,
     }
 }
 
 // A range of whole blocks of the smallest size.
-fn aligned(c: Call, x: u64, shape: Shape) -> Call {
-    let t = shape.a;
-    if t.size == 0 {
-        return c;
-    }
-    let mut d = c;
-    d.address = std::num::wrapping_sub_u32(c.address, c.address % t.size);
-    d.length = shapes::times(t.size, source::among(x, 1, 4)) as u64;
-    d
-}
-
-pub fn next_call(n: Numbers, shape: Shape) -> Call {
-    let c = drawn(n, shape);
-    if (c.kind == 4) & (n.d % 8 != 0) {
-        aligned(c, n.f, shape)
-    } else {
-        c
+fn aligned(range: Range, x: u64, shape: Shape) -> Range {
+    let size = shape.erases.first().size;
+    match range.address.checked_rem(size) {
+        Some(past) => Range {
+            address: range.address.wrapping_sub(past),
+            length: size.wrapping_mul(among(x, 1, 4)) as u64,
+        },
+        None => range,
     }
 }
 
-// ---- replayed
+fn command(n: Numbers, shape: Shape) -> Command {
+    let [a, b, c, d, _, f] = n;
+    let range = Range {
+        address: address(b, shape.capacity),
+        length: length(c, 200),
+    };
+    // A read may be longer.
+    let long = Range {
+        length: length(c, 4200),
+        ..range
+    };
+    match a % 20 {
+        0..=2 => Command::Read(long),
+        3 => Command::LegacyRead(long),
+        4 => Command::ReadParams,
+        5 => Command::Erase,
+        6..=8 if d % 8 == 0 => Command::EraseSectors(range),
+        6..=8 => Command::EraseSectors(aligned(range, f, shape)),
+        9..=13 => Command::Program {
+            range,
+            verify: d % 2 == 0,
+        },
+        14 | 15 => Command::ProgramData(range),
+        16 => Command::Reset,
+        17 => Command::ReadJedecId,
+        18 => Command::IsBusy,
+        _ => Command::IsProtected,
+    }
+}
 
-// What a command does to the contents, if it is accepted.
-fn replay(c: Call, refused: bool, data: &[u8], image: &mut [u8]) {
-    let at = c.address as u64;
-    let all = image.len() as u64;
-    let kind = if refused { 255 } else { c.kind };
-    match kind {
-        3 => image::set_ff(image, 0, all),
-        4 => image::set_ff(image, at, c.length),
-        5 => room::lay(image, at, room::payload(data, 0, c.length)),
-        6 => image::clear(image, at, room::payload(data, 0, c.length)),
-        _ => {}
+pub fn drawn(n: Numbers, shape: Shape) -> Call {
+    let [.., e, f] = n;
+    Call {
+        command: command(n, shape),
+        room: if e % 16 == 0 { f % 256 } else { 4096 },
     }
 }
 
 // ---- judged
 
-// The answer's number; 255 if there is none.
-fn number(p: Play) -> u8 {
-    let stepped = p.stepped;
-    let e = stepped.event;
-    match e {
-        Event::Send(_) => 255,
-        Event::Answered(a, _) => a.number(),
+fn answer(play: Play) -> Option<Answer> {
+    match play.stepped.event {
+        Event::Send(_) => None,
+        Event::Answered(a, _) => Some(a),
     }
 }
 
-fn is_refused(number: u8) -> bool {
-    match number {
-        5 | 6 | 7 | 11 => true,
-        _ => false,
-    }
+fn is_refusal(a: Answer) -> bool {
+    matches!(
+        a,
+        Answer::InvalidAddress(_)
+            | Answer::NoResetInstruction
+            | Answer::NoEraseInstruction
+            | Answer::NoRoom(_)
+    )
 }
 
 // A read, an erase or a write ends Done; any other command ends with an answer.
-fn ends_well(c: Call, number: u8) -> bool {
-    let kind = c.kind;
-    match kind {
-        0 | 1 | 3 | 4 | 5 | 6 => number == 0,
-        _ => number != 255,
+fn ends_well(command: Command, a: Answer) -> bool {
+    match command {
+        Command::ReadParams
+        | Command::Reset
+        | Command::ReadJedecId
+        | Command::IsBusy
+        | Command::IsProtected => true,
+        _ => a.number() == 0,
     }
 }
 
 // Whether a read's bytes are those of the replay.
-fn reads_well(c: Call, work: &[u8], image: &[u8]) -> bool {
-    if c.kind < 2 {
-        image::same(work, c.length, room::payload(image, c.address, c.length))
-    } else {
-        true
+fn reads_well(command: Command, work: &[u8], image: &[u8]) -> bool {
+    match command {
+        Command::Read(r) | Command::LegacyRead(r) => {
+            work.starts_with(room::payload(image, r.address, r.length))
+        }
+        _ => true,
     }
 }
 
 // The verdict on a command that ended so: the image is replayed, and all is compared.
-fn judge(
-    c: Call,
-    number: u8,
-    state: State,
+pub fn judge(
+    command: Command,
+    play: Play,
     data: &[u8],
     work: &[u8],
     memory: &[u8],
     image: &mut [u8],
-) -> bool {
-    let refused = is_refused(number);
-    replay(c, refused, data, image);
-    let ended = refused | (ends_well(c, number) & reads_well(c, work, image));
-    let len = memory.len() as u64;
-    ended & image::same(memory, len, image) & (state.busy == 0)
-}
-
-// A command from its start to its verdict.
-pub fn command(
-    run: Run,
-    w: World,
-    c: Call,
-    data: &[u8],
-    work: &mut [u8],
-    memory: &mut [u8],
-    image: &mut [u8],
-    area: &[u8],
-) -> Run {
-    let session = run.session;
-    let before = run.state;
-    let part = w.part;
-    let p = part_host::carry_out(
-        session, before, run.source, part, w.slow, c, data, work, memory, area,
-    );
-    let n = number(p);
-    let state = p.state;
-    let good = judge(c, n, state, data, work, memory, image);
-    run.judged(p, is_refused(n), good)
+) -> Verdict {
+    let a = answer(play);
+    let refused = a.is_some_and(is_refusal);
+    if !refused {
+        image::replay(command, data, image);
+    }
+    let ended = a.is_some_and(|a| ends_well(command, a)) && reads_well(command, work, image);
+    let kept = memory == image && play.state.busy == 0;
+    Verdict {
+        refused,
+        good: (refused || ended) && kept,
+    }
 }

@@ -1,49 +1,34 @@
 // The replay beside the part: a second slice on which each accepted command is carried out by what it means.
-use dwords::byte_at;
-use room::Differs;
-
-// Byte i with n bytes from a place on set to FF.
-fn ff_byte(i: u64, from: u64, n: u64, old: u8) -> u8 {
-    if from <= i {
-        if i - from < n {
-            return 0xFF;
-        }
-    }
-    old
-}
+use part_host::{Command, Range};
 
 // A range set to FF.
-pub fn set_ff(image: &mut [u8], from: u64, n: u64) {
-    let mut i = 0;
-    while i < image.len() {
-        let old = image[i];
-        image[i] = ff_byte(i as u64, from, n, old);
-        i += 1;
+fn set_ff(image: &mut [u8], range: Range) {
+    let all = image.iter_mut();
+    for byte in all.skip(range.address as usize).take(range.length as usize) {
+        *byte = 0xFF;
     }
-}
-
-// Byte i with data from a place on ANDed in.
-fn and_byte(i: u64, from: u64, data: &[u8], old: u8) -> u8 {
-    if from <= i {
-        return old & byte_at(data, (i - from) as usize);
-    }
-    old
 }
 
 // A raw write clears bits.
-pub fn clear(image: &mut [u8], from: u64, data: &[u8]) {
-    let mut i = 0;
-    while i < image.len() {
-        let old = image[i];
-        image[i] = and_byte(i as u64, from, data, old);
-        i += 1;
+fn clear(image: &mut [u8], from: u32, data: &[u8]) {
+    for (byte, sent) in image.iter_mut().skip(from as usize).zip(data) {
+        *byte &= *sent;
     }
 }
 
-// Whether n bytes of one equal the other's.
-pub fn same(a: &[u8], n: u64, b: &[u8]) -> bool {
-    match room::first_differs(a, n, b) {
-        Differs::Same => true,
-        Differs::At(_, _, _) => false,
+// What an accepted command does to the contents.
+pub fn replay(command: Command, data: &[u8], image: &mut [u8]) {
+    match command {
+        Command::Erase => image.fill(0xFF),
+        Command::EraseSectors(range) => set_ff(image, range),
+        Command::Program { range, verify: _ } => room::lay(
+            image,
+            range.address as u64,
+            room::payload(data, 0, range.length),
+        ),
+        Command::ProgramData(range) => {
+            clear(image, range.address, room::payload(data, 0, range.length))
+        }
+        _ => {}
     }
 }

@@ -1,12 +1,12 @@
 // A run: the part's state, the driver, and what was counted.
-use crate::shapes;
-use crate::shapes::Shape;
 use flash::Session;
-use nor_part::{Part, State};
+use nor_part::State;
 use part_host::Play;
+use part_host::source::Source;
+use std::fmt;
 
 // broken: sequences with a mismatch. mismatches: commands after which something is not as replayed.
-#[derive(Clone, Copy)]
+#[derive(Clone, Copy, Default)]
 pub struct Totals {
     pub sequences: u64,
     pub broken: u64,
@@ -18,115 +18,84 @@ pub struct Totals {
     pub mismatches: u64,
 }
 
-// A part and the driver's knowledge of it. slow: it stays busy beyond the limit.
-#[derive(Clone, Copy)]
-pub struct World {
-    pub shape: Shape,
-    pub part: Part,
-    pub slow: bool,
-}
-
 #[derive(Clone, Copy)]
 pub struct Run {
     pub state: State,
     pub session: Session,
-    pub source: u64,
+    pub source: Source,
     pub totals: Totals,
 }
 
-pub fn zero() -> Totals {
-    Totals {
-        sequences: 0,
-        broken: 0,
-        setters: 0,
-        commands: 0,
-        accepted: 0,
-        refused: 0,
-        transactions: 0,
-        mismatches: 0,
-    }
+// What a command came to: whether it was refused, and whether all is as replayed.
+#[derive(Clone, Copy)]
+pub struct Verdict {
+    pub refused: bool,
+    pub good: bool,
 }
 
-fn one_if(b: bool) -> u64 {
-    if b { 1 } else { 0 }
-}
-
-fn sum(a: u64, b: u64) -> u64 {
-    std::num::wrapping_add_u64(a, b)
+fn add(count: &mut u64, n: u64) {
+    *count = count.wrapping_add(n);
 }
 
 impl Totals {
     // With those of a sequence.
-    pub fn with(self, t: Totals) -> Totals {
-        Totals {
-            sequences: sum(self.sequences, 1),
-            broken: sum(self.broken, one_if(0 < t.mismatches)),
-            setters: sum(self.setters, t.setters),
-            commands: sum(self.commands, t.commands),
-            accepted: sum(self.accepted, t.accepted),
-            refused: sum(self.refused, t.refused),
-            transactions: sum(self.transactions, t.transactions),
-            mismatches: sum(self.mismatches, t.mismatches),
-        }
+    pub fn add_sequence(&mut self, t: Totals) {
+        add(&mut self.sequences, 1);
+        add(&mut self.broken, (0 < t.mismatches) as u64);
+        add(&mut self.setters, t.setters);
+        add(&mut self.commands, t.commands);
+        add(&mut self.accepted, t.accepted);
+        add(&mut self.refused, t.refused);
+        add(&mut self.transactions, t.transactions);
+        add(&mut self.mismatches, t.mismatches);
     }
 
-    // With the setters before a command.
-    pub fn set(self) -> Totals {
-        let mut t = self;
-        t.setters = sum(t.setters, shapes::SETTERS);
-        t
-    }
-
-    // With a command.
-    pub fn judged(self, sent: u64, refused: bool, good: bool) -> Totals {
-        let mut t = self;
-        t.commands = sum(t.commands, 1);
-        t.accepted = sum(t.accepted, one_if(refused == false));
-        t.refused = sum(t.refused, one_if(refused));
-        t.transactions = sum(t.transactions, sent);
-        t.mismatches = sum(t.mismatches, one_if(good == false));
-        t
+    // With a command that took so many transactions.
+    pub fn add_command(&mut self, transactions: u64, v: Verdict) {
+        add(&mut self.commands, 1);
+        add(&mut self.accepted, !v.refused as u64);
+        add(&mut self.refused, v.refused as u64);
+        add(&mut self.transactions, transactions);
+        add(&mut self.mismatches, !v.good as u64);
     }
 }
 
-// A sequence's start: the part's latch is clear; a fresh driver that polls at most 10 times.
-pub fn begun(busy: u64, source: u64) -> Run {
-    let session = Session::new().set_poll_limit(10).session;
-    Run {
-        state: State {
-            latch: false,
-            busy: busy,
-        },
-        session: session,
-        source: source,
-        totals: zero(),
+impl fmt::Display for Totals {
+    fn fmt<W: fmt::Write>(&self, f: &mut fmt::Formatter<W>) -> fmt::Result {
+        let (sequences, setters, commands) = (self.sequences, self.setters, self.commands);
+        let (accepted, refused) = (self.accepted, self.refused);
+        let (transactions, mismatches) = (self.transactions, self.mismatches);
+        write!(
+            f,
+            "sequences {sequences}, setters {setters}, commands {commands}, "
+        )?;
+        write!(f, "accepted {accepted}, refused {refused}, ")?;
+        write!(f, "transactions {transactions}, mismatches {mismatches}")
     }
 }
 
 impl Run {
+    // A sequence's start: the part's latch is clear; a fresh driver that polls at most 10 times.
+    pub fn begun(busy: u64, source: Source) -> Run {
+        Run {
+            state: State { latch: false, busy },
+            session: Session::new().set_poll_limit(10).session,
+            source,
+            totals: Totals::default(),
+        }
+    }
+
     // After the setters before a command.
-    pub fn ready(self, session: Session, source: u64) -> Run {
-        let totals = self.totals;
-        let counted = totals.set();
-        let mut r = self;
-        r.session = session;
-        r.source = source;
-        r.totals = counted;
-        r
+    pub fn set(&mut self, session: Session, setters: u64) {
+        self.session = session;
+        add(&mut self.totals.setters, setters);
     }
 
     // After a command.
-    pub fn judged(self, p: Play, refused: bool, good: bool) -> Run {
-        let totals = self.totals;
-        let counted = totals.judged(p.count, refused, good);
-        let stepped = p.stepped;
-        let session = stepped.session;
-        let state = p.state;
-        Run {
-            state: state,
-            session: session,
-            source: p.source,
-            totals: counted,
-        }
+    pub fn played(&mut self, play: Play, v: Verdict) {
+        self.state = play.state;
+        self.session = play.stepped.session;
+        self.source = play.source;
+        self.totals.add_command(play.count, v);
     }
 }

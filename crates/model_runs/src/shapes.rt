@@ -1,280 +1,215 @@
 // Parts of several shapes, each with the settings that fit it, and parts that break a premise.
+ghost use Rattle.std.specs.Prelude.{◌≤◌};
+
 use flash::Session;
 use nor_part::{Erase, Part};
-use part_host::source;
-use part_host::source::Numbers;
-use settings::{SetAnswer, Settings};
+use part_host::source::{Numbers, among};
+use settings::{SettingError, Settings};
+use std::fmt;
 
-// What is broken, if anything is: the poll is not offered, other address bytes, a page that the driver's does not divide, busy
-// beyond the limit, not idle at first, an erase opcode of another size.
-pub const NOTHING: u8 = 0;
+// What is broken of a part.
+#[derive(Clone, Copy, PartialEq, Eq)]
+pub enum Flaw {
+    Poll,
+    Address,
+    Page,
+    Slow,
+    Busy,
+    Size,
+}
 
-pub const POLL: u8 = 1;
+impl fmt::Display for Flaw {
+    fn fmt<W: fmt::Write>(&self, f: &mut fmt::Formatter<W>) -> fmt::Result {
+        f.write_str(match self {
+            Flaw::Poll => "poll not offered",
+            Flaw::Address => "other address bytes",
+            Flaw::Page => "page that the driver's does not divide",
+            Flaw::Slow => "busy beyond the limit",
+            Flaw::Busy => "not idle at first",
+            Flaw::Size => "erase opcode of another size",
+        })
+    }
+}
 
-pub const ADDRESS: u8 = 2;
-
-pub const PAGE: u8 = 3;
-
-pub const SLOW: u8 = 4;
-
-pub const BUSY: u8 = 5;
-
-pub const SIZE: u8 = 6;
-
-// An erase, with its exponent in the SFDP area; 0 there: it is in no type.
+// An erase type of the SFDP area: 2 to the power of exponent bytes.
 #[derive(Clone, Copy)]
 pub struct Type {
     pub opcode: u8,
-    pub size: u32,
     pub exponent: u8,
 }
 
-// A part as the driver is told of it. sfdp: by the SFDP area; else the first erase and the page are set by hand. legacy: the area
-// has 4 KiB alone. page: the driver's, 2 to the power of exponent in the area.
+// The erases, and how the driver is told of them.
+#[derive(Clone, Copy)]
+pub enum Erases {
+    // A single one, set by hand with the page: there is no area.
+    ByHand(Erase),
+    // The area has 4 KiB alone.
+    Legacy,
+    // The area has three types.
+    Types([Type; 3]),
+}
+
+// A part as the driver is told of it. page: the driver's; the part's is so many times as large.
 #[derive(Clone, Copy)]
 pub struct Shape {
-    pub sfdp: bool,
-    pub legacy: bool,
+    pub erases: Erases,
     pub flagged: bool,
     pub addressed: u8,
     pub capacity: u32,
     pub page: u32,
-    pub exponent: u8,
     pub times: u32,
-    pub a: Type,
-    pub b: Type,
-    pub c: Type,
 }
 
 // ---- shapes
 
-fn none() -> Type {
-    Type {
-        opcode: 0,
-        size: 0,
-        exponent: 0,
+impl Type {
+    fn erase(self) -> Erase {
+        Erase {
+            opcode: self.opcode,
+            size: 1 << self.exponent.min(31),
+        }
     }
 }
 
-fn power(k: u8) -> u32 {
-    match k {
-        0 => 1,
-        1 => 2,
-        2 => 4,
-        3 => 8,
-        4 => 16,
-        5 => 32,
-        6 => 64,
-        7 => 128,
-        8 => 256,
-        9 => 512,
-        _ => 1024,
+impl Erases {
+    // The smallest, or the only one.
+    pub fn first(self) -> Erase {
+        match self {
+            Erases::ByHand(erase) => erase,
+            Erases::Legacy => Erase {
+                opcode: 0x20,
+                size: 4096,
+            },
+            Erases::Types(types) => types[0].erase(),
+        }
     }
-}
 
-fn type_of(opcode: u8, exponent: u8) -> Type {
-    Type {
-        opcode: opcode,
-        size: power(exponent),
-        exponent: exponent,
+    fn all(self) -> [Option<Erase>; 4] {
+        match self {
+            Erases::Types(types) => {
+                let [a, b, c] = types.map(|t| Some(t.erase()));
+                [a, b, c, None]
+            }
+            _ => [Some(self.first()), None, None, None],
+        }
     }
 }
 
 // A size that need not be a power of two.
-fn odd_type(x: u64, y: u64) -> Type {
-    let size = match x % 8 {
-        0 => 1,
-        1 => 3,
-        2 => 5,
-        3 => 7,
-        4 => 24,
-        5 => 100,
-        6 => 333,
-        _ => 1000,
-    };
-    let opcode = match y % 5 {
-        0 => 0x20,
-        1 => 0xD7,
-        2 => 0x52,
-        3 => 0x00,
-        _ => 0xFF,
-    };
-    Type {
-        opcode: opcode,
-        size: size,
-        exponent: 0,
-    }
+fn odd_erase(n: Numbers) -> Erases {
+    let sizes = [1, 3, 5, 7, 24, 100, 333, 1000];
+    let opcodes = [0x20, 0xD7, 0x52, 0x00, 0xFF];
+    Erases::ByHand(Erase {
+        opcode: opcodes[(n[1] / 4 % 5) as usize],
+        size: sizes[(n[0] / 4 % 8) as usize],
+    })
 }
 
-// Half of them 4,096; 256 with one address byte.
-fn capacity(x: u64, addressed: u8) -> u32 {
-    if addressed == 1 {
-        return 256;
-    }
-    if x % 2 == 0 {
-        4096
-    } else {
-        source::among(x / 2, 300, 3796)
-    }
-}
-
-// A single size, set by hand.
-fn by_hand(n: Numbers, addressed: u8) -> Shape {
-    Shape {
-        sfdp: false,
-        legacy: false,
-        flagged: n.f % 2 == 0,
-        addressed: addressed,
-        capacity: capacity(n.c, addressed),
-        page: source::among(n.d, 2, 299),
-        exponent: 0,
-        times: source::among(n.e, 1, 4),
-        a: odd_type(n.a / 4, n.b / 4),
-        b: none(),
-        c: none(),
-    }
-}
-
-// The area has 4 KiB alone.
-fn by_legacy(n: Numbers, addressed: u8) -> Shape {
-    let exponent = (n.d % 8 + 1) as u8;
-    Shape {
-        sfdp: true,
-        legacy: true,
-        flagged: n.f % 2 == 0,
-        addressed: addressed,
-        capacity: 4096,
-        page: power(exponent),
-        exponent: exponent,
-        times: source::among(n.e, 1, 4),
-        a: Type {
+// Three sizes, or two types of one size and a larger one.
+fn types(n: Numbers, alike: bool) -> Erases {
+    let exponent = (n[0] / 4 % 6 + 1) as u8;
+    Erases::Types([
+        Type {
+            opcode: 0x21,
+            exponent,
+        },
+        Type {
             opcode: 0x20,
-            size: 4096,
-            exponent: 0,
+            exponent: if alike { exponent } else { exponent + 2 },
         },
-        b: none(),
-        c: none(),
+        Type {
+            opcode: 0xD8,
+            exponent: exponent + 4,
+        },
+    ])
+}
+
+fn draw_erases(n: Numbers, addressed: u8, flaw: Option<Flaw>) -> Erases {
+    match n[0] % 4 {
+        _ if flaw == Some(Flaw::Poll) => types(n, false),
+        0 => odd_erase(n),
+        1 => types(n, false),
+        2 => types(n, true),
+        _ if addressed == 1 => odd_erase(n),
+        _ => Erases::Legacy,
     }
 }
 
-// The area has three types: of three sizes, or two of one size and a larger one.
-fn by_types(n: Numbers, addressed: u8, alike: bool) -> Shape {
-    let exponent = (n.d % 8 + 1) as u8;
-    let k = (n.a / 4 % 6 + 1) as u8;
+// Half of them 4,096, as are those whose area has 4 KiB alone; 256 with one address byte.
+fn capacity(x: u64, addressed: u8, erases: Erases) -> u32 {
+    match erases {
+        Erases::Legacy => 4096,
+        _ if addressed == 1 => 256,
+        _ if x % 2 == 0 => 4096,
+        _ => among(x / 2, 300, 3796),
+    }
+}
+
+pub fn draw(n: Numbers, flaw: Option<Flaw>) -> Shape {
+    let [_, b, c, d, e, f] = n;
+    let addressed = (b % 4 + 1) as u8;
+    let erases = draw_erases(n, addressed, flaw);
     Shape {
-        sfdp: true,
-        legacy: false,
-        flagged: n.f % 2 == 0,
-        addressed: addressed,
-        capacity: capacity(n.c, addressed),
-        page: power(exponent),
-        exponent: exponent,
-        times: source::among(n.e, 1, 4),
-        a: type_of(0x21, k),
-        b: type_of(0x20, if alike { k } else { k + 2 }),
-        c: type_of(0xD8, k + 4),
-    }
-}
-
-pub fn draw(n: Numbers, flaw: u8) -> Shape {
-    let addressed = (n.b % 4 + 1) as u8;
-    if flaw == POLL {
-        let mut s = by_types(n, addressed, false);
-        s.flagged = true;
-        return s;
-    }
-    match n.a % 4 {
-        0 => by_hand(n, addressed),
-        1 => by_types(n, addressed, false),
-        2 => by_types(n, addressed, true),
-        _ => if addressed == 1 {
-            by_hand(n, addressed)
-        } else {
-            by_legacy(n, addressed)
+        erases,
+        flagged: flaw == Some(Flaw::Poll) || f % 2 == 0,
+        addressed,
+        capacity: capacity(c, addressed, erases),
+        page: match erases {
+            Erases::ByHand(_) => among(d, 2, 299),
+            _ => 1 << (d % 8 + 1),
         },
+        times: among(e, 1, 4),
     }
 }
 
 // ---- the part
 
-fn erase(t: Type, doubled: bool) -> Erase {
-    let size = if doubled { t.size % 4097 * 2 } else { t.size };
-    Erase {
-        opcode: t.opcode,
-        size: size,
+pub fn part<'a>(s: Shape, flaw: Option<Flaw>, area: &'a [u8]) -> Part<'a> {
+    let mut part = Part {
+        addressed: s.addressed,
+        page: s.page.wrapping_mul(s.times),
+        flagged: s.flagged,
+        erases: s.erases.all(),
+        id: &part_host::ID,
+        sfdp: area,
+    };
+    match flaw {
+        Some(Flaw::Address) => part.addressed = s.addressed % 4 + 1,
+        Some(Flaw::Page) => part.page = s.page.wrapping_add(1),
+        Some(Flaw::Poll) => part.flagged = false,
+        Some(Flaw::Size) => double(&mut part.erases),
+        _ => {}
     }
+    part
 }
 
-// So many times a number.
-pub fn times(n: u32, count: u32) -> u32 {
-    let m = n % 65_536;
-    match count {
-        1 => m,
-        2 => 2 * m,
-        3 => 3 * m,
-        _ => 4 * m,
-    }
-}
-
-fn device_page(s: Shape, flaw: u8) -> u32 {
-    if flaw == PAGE {
-        std::num::wrapping_add_u32(s.page, 1)
-    } else {
-        times(s.page, s.times)
-    }
-}
-
-pub fn part(s: Shape, flaw: u8) -> Part {
-    let a = s.a;
-    let b = s.b;
-    let c = s.c;
-    let doubled = flaw == SIZE;
-    Part {
-        addressed: if flaw == ADDRESS {
-            s.addressed % 4 + 1
-        } else {
-            s.addressed
-        },
-        page: device_page(s, flaw),
-        flagged: if flaw == POLL { false } else { s.flagged },
-        first: erase(a, doubled),
-        second: erase(b, doubled),
-        third: erase(c, doubled),
-        fourth: erase(none(), false),
+fn double(erases: &mut [Option<Erase>]) {
+    for entry in erases.iter_mut() {
+        if let Some(erase) = entry {
+            erase.size = erase.size.wrapping_mul(2);
+        }
     }
 }
 
 // ---- its SFDP area
 
-fn low(n: u32) -> u8 {
-    (n % 256) as u8
-}
-
-fn either(first: bool, a: u8, b: u8) -> u8 {
-    if first { a } else { b }
-}
-
 // The parts of the area that differ: dwords 1 and 2, 8 and 9, 11, 14, 16.
 fn vary(s: Shape, area: &mut [u8]) {
-    let a = s.a;
-    let b = s.b;
-    let c = s.c;
-    let bits = std::num::wrapping_sub_u32(s.capacity % 65_536 * 8, 1);
-    let erase = either(s.legacy, 0x01, 0x03);
-    let opcode = either(s.legacy, 0x20, 0xFF);
-    let wide = either(s.addressed == 4, 4, 0);
-    let first = [erase, opcode, wide, 0, low(bits), low(bits / 256)];
-    room::lay(area, 16, &first);
-    let types = [
-        a.exponent, a.opcode, b.exponent, b.opcode, c.exponent, c.opcode,
-    ];
-    room::lay(area, 44, &types);
-    let page = [s.exponent % 16 * 16];
-    room::lay(area, 56, &page);
-    let poll = [either(s.flagged, 8, 4)];
-    room::lay(area, 68, &poll);
-    let reset = [either(s.flagged, 0x10, 0x08)];
-    room::lay(area, 77, &reset);
+    let (erase, opcode) = match s.erases {
+        Erases::Legacy => (0x01, 0x20),
+        _ => (0x03, 0xFF),
+    };
+    let wide = if s.addressed == 4 { 4 } else { 0 };
+    let bits = s.capacity.wrapping_mul(8).wrapping_sub(1).to_le_bytes();
+    room::lay(area, 16, &[erase, opcode, wide, 0, bits[0], bits[1]]);
+    if let Erases::Types(types) = s.erases {
+        let bytes = types.map(|t| [t.exponent, t.opcode]);
+        room::lay(area, 44, bytes.as_flattened());
+    }
+    room::lay(area, 56, &[s.page.trailing_zeros() as u8 % 16 * 16]);
+    let (poll, reset) = if s.flagged { (8, 0x10) } else { (4, 0x08) };
+    room::lay(area, 68, &[poll]);
+    room::lay(area, 77, &[reset]);
 }
 
 // Fills 80 bytes: the header, a parameter header, 16 dwords. An area that is not there stays FF.
@@ -283,12 +218,12 @@ pub fn put_area(s: Shape, area: &mut [u8]) {
         0x53, 0x46, 0x44, 0x50, 0x06, 0x01, 0x00, 0xFF, 0x00, 0x06, 0x01, 0x10, 0x10, 0x00, 0x00,
         0xFF,
     ];
-    if s.sfdp {
-        let zero = [0u8; 80];
-        room::lay(area, 0, &zero);
-        room::lay(area, 0, &header);
-        vary(s, area);
+    if let Erases::ByHand(_) = s.erases {
+        return;
     }
+    area.fill(0);
+    room::lay(area, 0, &header);
+    vary(s, area);
 }
 
 // ---- the settings that fit it
@@ -296,12 +231,23 @@ pub fn put_area(s: Shape, area: &mut [u8]) {
 // How many of the driver's setters there are before a command.
 pub const SETTERS: u64 = 2;
 
+// A part of the page; 1 where there is none so large.
+fn divided(page: u32, by: u32) -> u64
+    requires { 1 ≤ by }
+{
+    if page % by == 0 {
+        (page / by) as u64
+    } else {
+        1
+    }
+}
+
 // A page that divides the part's, or one that is refused.
 fn page(x: u64, page: u32) -> u64 {
     match x % 8 {
-        0 => if page % 2 == 0 { (page / 2) as u64 } else { 1 },
-        1 => if page % 3 == 0 { (page / 3) as u64 } else { 1 },
-        2 => if page % 5 == 0 { (page / 5) as u64 } else { 1 },
+        0 => divided(page, 2),
+        1 => divided(page, 3),
+        2 => divided(page, 5),
         3 => 0,
         4 => 32_769 + x / 8 % 1000,
         _ => page as u64,
@@ -312,35 +258,29 @@ fn page(x: u64, page: u32) -> u64 {
 fn limit(x: u64) -> u32 {
     match x % 8 {
         0 => 0,
-        1 => source::among(x / 8, 65_536, 1000),
-        _ => source::among(x / 8, 1, 20),
+        1 => among(x / 8, 65_536, 1000),
+        _ => among(x / 8, 1, 20),
     }
 }
 
-fn settled(before: Settings, x: SetAnswer) -> Settings {
-    match x {
-        SetAnswer::Set(t) => t,
-        SetAnswer::BadSetting => before,
-    }
+fn settled(before: Settings, given: Result<Settings, SettingError>) -> Settings {
+    given.unwrap_or(before)
 }
 
 // Address bytes, capacity, the erase, which matters where the area gives none, and the page.
-fn told(s: Shape, a: Settings) -> Settings {
-    let t = s.a;
-    let b = settled(a, a.set_address_bytes(s.addressed));
-    let c = b.set_capacity(s.capacity as u64);
-    let d = settled(c, c.set_erase_size(t.size as u64));
-    let e = d.set_erase_opcode(t.opcode);
-    settled(e, e.set_page_size(s.page as u64))
+fn told(s: Shape, before: Settings) -> Settings {
+    let erase = s.erases.first();
+    let a = settled(before, before.set_address_bytes(s.addressed));
+    let b = a.set_capacity(s.capacity as u64);
+    let c = settled(b, b.set_erase_size(erase.size as u64));
+    let d = c.set_erase_opcode(erase.opcode);
+    settled(d, d.set_page_size(s.page as u64))
 }
 
 // All that; then the driver's setters for another page and a poll limit, which may be refused.
-pub fn fitted(s: Shape, n: Numbers, a: Session) -> Session {
-    let settings = a.settings;
-    let mut b = a;
-    let t = told(s, settings);
-    b.settings = t;
-    let c = b.set_page_size(page(n.c, s.page)).session;
-    let d = c.set_poll_limit(limit(n.d)).session;
-    d
+pub fn fitted(s: Shape, n: Numbers, before: Session) -> Session {
+    let mut session = before;
+    session.settings = told(s, before.settings);
+    session = session.set_page_size(page(n[2], s.page)).session;
+    session.set_poll_limit(limit(n[3])).session
 }

@@ -2,8 +2,9 @@
 use Prim.Native.Nat.{ℕ, zero, suc, ◌+◌, ◌*◌, ◌<◌, ◌≤◌}
 use native.Mathlib.Omega.{arith}
 use mathlib.Core.List.{List, [], ◌∷◌}
-use mathlib.Core.Path.{◌≡◌, refl, ap}
+use mathlib.Core.Path.{◌≡◌, refl}
 use lib.ListN.{length, get_or, drop}
+use Rattle.std.specs.Int.{w64, to_le_bytes}
 use Rattle.room.specs.Room.{laid}
 use Rattle.moss_flash.specs.Records.{le8}
 use Rattle.moss_flash.specs.Asked.{laid_from}
@@ -22,6 +23,10 @@ lay_on w i l h =
     let e : 8 * (i + 1) ≡ 8 * i + 8 = omega arith in
     let f : i + 1 ≡ suc i = omega arith in
     rw (e, f) (lay_next w i (8 * i) l h)
+
+-- a number's bytes, as the library has them
+pub le8_bytes : (x : ℕ) → to_le_bytes w64 x ≡ le8 x
+le8_bytes x = grind arith
 
 -- past the last number nothing is laid
 pub lay_end : (w : List ℕ) (i at : ℕ) (l : List ℕ) → length w ≤ i → laid_from at (drop i w) l ≡ l

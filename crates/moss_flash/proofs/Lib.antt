@@ -1,3 +1,2 @@
-pub mod Addresses
 pub mod Filling
 pub mod Laying

@@ -1,16 +1,16 @@
 -- The plan for C: the records of its entries, 16 bytes each, in a lent slice.
-use Rattle.std.specs.Prelude.{ℕ, ◌*◌, ◌/◌, cond, List, [], ◌∷◌, ◌++◌, eqb, length, drop}
+use Rattle.std.specs.Prelude.{ℕ, ◌*◌, ◌/◌, List, [], ◌∷◌, ◌++◌, length, drop, Result, Ok, Err}
 use Rattle.erase_plan.specs.declared.EraseEntry.{EraseEntry}
 use Rattle.plans.specs.declared.PlanQuery.{PlanQuery}
-use Rattle.plans.specs.declared.Planned.{Planned}
-use Rattle.plans.specs.Planned.{plan_for, planned_of}
+use Rattle.plans.specs.declared.PlanError.{PlanError}
+use Rattle.plans.specs.declared.PlanError.TheVariants.{InvalidAddress, NoEraseInstruction, NoRoom}
+use Rattle.plans.specs.Planned.{plan_for, error_number, planned_of}
 use Rattle.packed.specs.Numbers.{bytes}
 use Rattle.flash.specs.declared.Session.{Session}
-use Rattle.moss_flash.specs.declared.Opened.{Opened}
-use Rattle.moss_flash.specs.declared.Opened.TheVariants.{Open, Refused}
+use Rattle.moss_flash.specs.declared.Refusal.{Refusal}
 use Rattle.moss_flash.specs.declared.records.EventWords.{EventWords}
 use Rattle.moss_flash.specs.Records.{words_over}
-use Rattle.moss_flash.specs.Calls.{Called}
+use Rattle.moss_flash.specs.Calls.{Called, refusal_number}
 
 abbrev pub query_of : Session → ℕ → ℕ → PlanQuery
 query_of s a n = record { settings = s.settings; known = s.known; params = s.params; address = a; length = n }
@@ -24,21 +24,44 @@ unfoldable pub records_of : List EraseEntry → List ℕ
 records_of [] = []
 records_of (e ∷ es) = entry_bytes e ++ records_of es
 
--- where the answer is 0 the records of the plan, then the bytes that are left; else the bytes as they were
+-- where there is a plan that fits its records, then the bytes that are left; else the bytes as they were
+abbrev pub fitted : Result ℕ PlanError → (over as_were : List ℕ) → List ℕ
+fitted (Ok n) over as_were = over
+fitted (Err e) over as_were = as_were
+
 unfoldable pub plan_over : PlanQuery → List ℕ → List ℕ
-plan_over q l = cond (eqb (planned_of q (length l / 16)).number 0) (records_of (plan_for q) ++ drop (16 * length (plan_for q)) l) l
+plan_over q l = fitted (planned_of q (length l / 16)) (records_of (plan_for q) ++ drop (16 * length (plan_for q)) l) l
 
--- number a of the event record: what answer 5 reports, else the count
-unfoldable pub plan_number : Planned → ℕ
-plan_number p = cond (eqb p.number 5) p.last p.count
+-- what a refusal reports: of 5 the last address, of 11 how many entries the plan has
+abbrev pub error_word : PlanError → ℕ
+error_word (InvalidAddress r) = r.last
+error_word NoEraseInstruction = 0
+error_word (NoRoom n) = n
 
-abbrev pub plan_words : Planned → EventWords
-plan_words p = record { head = p.number; reply = 0; from = 0; len = 0; delay = 0; polls = 0; a = plan_number p; b = 0 }
+-- the answer's number, whatever is asked for
+abbrev pub number_of : {A : Type 0} → Result A PlanError → ℕ
+number_of (Ok x) = 0
+number_of (Err e) = error_number e
 
-abbrev pub plan_called : Opened → ℕ → ℕ → (entries event : List ℕ) → Called
-plan_called (Refused n) a size l e = record { number = n; session = []; event = e; room = l }
-plan_called (Open s) a size l e = record {
-  number = (planned_of (query_of s a size) (length l / 16)).number;
+abbrev pub plan_head : Result ℕ PlanError → ℕ
+plan_head = number_of
+
+-- number a of the event record: the count, or what a refusal reports
+unfoldable pub plan_number : Result ℕ PlanError → ℕ
+plan_number (Ok n) = n
+plan_number (Err e) = error_word e
+
+-- an answer's number and two more in the event record
+abbrev pub number_words : (number a b : ℕ) → EventWords
+number_words number a b = record { head = number; reply = 0; from = 0; len = 0; delay = 0; polls = 0; a = a; b = b }
+
+abbrev pub plan_words : Result ℕ PlanError → EventWords
+plan_words p = number_words (plan_head p) (plan_number p) 0
+
+abbrev pub plan_called : Result Session Refusal → ℕ → ℕ → (entries event : List ℕ) → Called
+plan_called (Err n) a size l e = record { number = refusal_number n; session = []; event = e; room = l }
+plan_called (Ok s) a size l e = record {
+  number = plan_head (planned_of (query_of s a size) (length l / 16));
   session = [];
   event = words_over (plan_words (planned_of (query_of s a size) (length l / 16))) e;
   room = plan_over (query_of s a size) l;

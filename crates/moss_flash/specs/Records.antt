@@ -1,5 +1,5 @@
 -- The records that C reads: numbers of 64 bits, one after another, the lowest byte first.
-use Rattle.std.specs.Prelude.{ℕ, ◌+◌, ◌*◌, ◌/◌, ◌%◌, Bool, true, false, cond, not, List, [], ◌∷◌, leb}
+use Rattle.std.specs.Prelude.{ℕ, ◌+◌, ◌*◌, ◌/◌, ◌%◌, Bool, true, false, cond, not, List, [], ◌∷◌, leb, is_some, unwrap_or}
 use Rattle.commands.specs.declared.Answer.{Answer}
 use Rattle.commands.specs.declared.Answer.TheVariants.{Done, DoneBool, DoneId, ReadbackError, InvalidManufacturer, InvalidSFDPHeader, InvalidSFDPParams, InvalidAddress, NoResetInstruction, NoEraseInstruction, Access, Busy, BadSetting, NoRoom, NoSFDP, BadSession}
 use Rattle.commands.specs.Answers.{number_of}
@@ -100,14 +100,14 @@ event_over e l = words_over (event_words e) l
 -- bytes 0 to 7: address bytes, capacity set, erase opcode, parameters known, poll limit (two bytes), polls by flag status, a command runs
 unfoldable pub settings_head : Session → ℕ
 settings_head s =
-    low_first (s.settings.address_bytes ∷ bit s.settings.capacity_set ∷ s.settings.erase_opcode ∷ bit s.known ∷ [])
+    low_first (s.settings.address_bytes ∷ bit (is_some s.settings.capacity) ∷ s.settings.erase_opcode ∷ bit s.known ∷ [])
     + 4294967296 * (s.settings.poll_limit + 65536 * (bit (flagged s) + 256 * bit (not (is_ended s.phase))))
 
--- then capacity; page size and erase size, four bytes each; density, 0 where it is not known
+-- then the capacity, 0 where there is none; page size and erase size, four bytes each; density, 0 where it is not known
 unfoldable pub settings_words : Session → SettingsRecord
 settings_words s = record {
   head = settings_head s;
-  capacity = s.settings.capacity;
+  capacity = unwrap_or s.settings.capacity 0;
   sizes = s.settings.page_size + 4294967296 * s.settings.erase_size;
   density = cond s.known s.params.density 0;
 }

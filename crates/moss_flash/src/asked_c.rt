@@ -1,11 +1,13 @@
 // What C may ask besides running a command: the version, the parameters that a table gave, the span of a program.
 ghost use Rattle.std.specs.Prelude.{◌≡◌, length};
 ghost use Rattle.moss_flash.specs.Calls.{unpack_of, opened_of};
-ghost use Rattle.moss_flash.specs.Asked.{version, laid_from, params_called, span_words, span_called};
+ghost use Rattle.moss_flash.specs.Asked.{version, params_called, span_words, span_called};
 
 use crate::records::EventWords;
-use crate::{Opened, Unpacked, plan_c, records};
-use questions::Spanned;
+use crate::{Refusal, plan_c, records};
+use commands::Answer;
+use plans::PlanError;
+use questions::Span;
 
 // The version of the interface: major, minor and patch, a byte each, the patch lowest.
 pub fn moss_flash_version() -> u32
@@ -14,47 +16,29 @@ pub fn moss_flash_version() -> u32
     0x0200
 }
 
-// Numbers of 64 bits, one after another.
-fn write_all(out: &mut [u8], w: &[u64])
-    ensures { out.new ≡ laid_from 0 w.now out.old }
-{
-    let mut i: usize = 0;
-    while i < w.len() {
-        room::lay(out, 8 * (i as u64), &records::bytes_of(w[i]));
-        i += 1;
-    }
-}
-
 // The parameters' record: 13, then 11 where it has less than 192 bytes; else 0.
 pub fn moss_flash_params(session: &[u8], params: &mut [u8]) -> u8
     ensures { (result ≡ (params_called (unpack_of session.now) params.old).number) × (params.new ≡ (params_called (unpack_of session.now) params.old).event) }
 {
     match crate::unpack(session) {
-        Unpacked::Bad => 13,
-        Unpacked::Held(s) => {
-            if params.len() < 192 {
-                return 11;
-            }
-            let p = s.params;
-            write_all(params, &questions::shown_words(s.known, p));
-            0
+        None => Refusal::BadSession.number(),
+        Some(_) if params.len() < 192 => Refusal::NoRoom.number(),
+        Some(s) => {
+            records::write_all(params, &questions::shown_words(s.known, s.params));
+            Answer::Done.number()
         }
     }
 }
 
-fn span_words(x: Spanned) -> EventWords
+// Of a span its first address and its length, of a refusal what it reports.
+fn span_words(x: Result<Span, PlanError>) -> EventWords
     ensures { result ≡ span_words x }
 {
-    EventWords {
-        head: x.number as u64,
-        reply: 0,
-        from: 0,
-        len: 0,
-        delay: 0,
-        polls: 0,
-        a: x.a,
-        b: x.b,
-    }
+    let (a, b) = match x {
+        Ok(span) => (span.first as u64, span.len),
+        Err(e) => (plan_c::error_word(e), 0),
+    };
+    plan_c::number_words(plan_c::number_of(x), a, b)
 }
 
 // The span of a program of a range. It only looks: a command may be running.
@@ -62,11 +46,11 @@ pub fn moss_flash_span(session: &[u8], address: u32, size: u64, event: &mut [u8]
     ensures { (result ≡ (span_called (opened_of session.now (length event.old)) address size event.old).number) × (event.new ≡ (span_called (opened_of session.now (length event.old)) address size event.old).event) }
 {
     match crate::open(session, event.len()) {
-        Opened::Refused(n) => n,
-        Opened::Open(s) => {
+        Err(refusal) => refusal.number(),
+        Ok(s) => {
             let x = questions::span_for(plan_c::query_of(s, address, size));
             records::write_words(event, span_words(x));
-            x.number
+            plan_c::number_of(x)
         }
     }
 }

@@ -1,42 +1,27 @@
 // The plan for C: each entry is a record of 16 bytes in a lent slice.
 ghost use Rattle.std.specs.Prelude.{◌≡◌, ◌*◌, ◌/◌, ◌≤◌, ◌++◌, length, drop};
-ghost use Rattle.packed.specs.Numbers.{four_of};
 ghost use Rattle.plans.specs.Planned.{planned_of};
 ghost use Rattle.plans.specs.Cursors.{ahead, Kept};
 ghost use Rattle.moss_flash.specs.Calls.{opened_of};
-ghost use Rattle.moss_flash.specs.Plans.{query_of, entry_bytes, records_of, plan_number, plan_words, plan_over, plan_called};
+ghost use Rattle.moss_flash.specs.Plans.{query_of, entry_bytes, records_of, error_word, number_of, plan_number, number_words, plan_over, plan_called};
 
+use crate::records;
 use crate::records::EventWords;
-use crate::{Opened, records};
+use commands::Answer;
 use erase_plan::EraseEntry;
 use flash::Session;
-use packed::Four;
-use plans::{Begun, Cursor, PlanQuery, Planned};
-
-// A number's four bytes, the lowest first.
-fn four_of(x: u32) -> Four
-    ensures { result ≡ four_of x }
-{
-    let x1 = x / 256;
-    let x2 = x1 / 256;
-    let x3 = x2 / 256;
-    Four {
-        a: (x % 256) as u8,
-        b: (x1 % 256) as u8,
-        c: (x2 % 256) as u8,
-        d: (x3 % 256) as u8,
-    }
-}
+use plans::{Cursor, PlanError, PlanQuery};
 
 // An entry's record.
+#[tactic(auto, using(packed::proofs::Bytes::le_four), unfolding(crate::specs::Plans::entry_bytes, packed::specs::Numbers::bytes))]
 fn entry_bytes(e: EraseEntry) -> [u8; 16]
     ensures { result ≡ entry_bytes e }
 {
-    let s = four_of(e.size);
-    let b = four_of(e.base);
-    let t = four_of(e.time);
+    let [s0, s1, s2, s3] = e.size.to_le_bytes();
+    let [b0, b1, b2, b3] = e.base.to_le_bytes();
+    let [t0, t1, t2, t3] = e.time.to_le_bytes();
     [
-        e.opcode, e.timed, 0, 0, s.a, s.b, s.c, s.d, b.a, b.b, b.c, b.d, t.a, t.b, t.c, t.d,
+        e.opcode, e.timed, 0, 0, s0, s1, s2, s3, b0, b1, b2, b3, t0, t1, t2, t3,
     ]
 }
 
@@ -45,87 +30,83 @@ fn write_entries(out: &mut [u8], n: u64, c: Cursor)
     requires { (n ≡ length (ahead c)) × (16 * n ≤ length out.old) × Kept c }
     ensures { out.new ≡ records_of (ahead c) ++ drop (16 * n) out.old }
 {
-    let mut cursor = c;
-    let mut k: u64 = 0;
-    while k < n {
-        let s = plans::advance(cursor);
-        let e = s.entry;
-        room::lay(out, 16 * k, &entry_bytes(e));
-        cursor = s.next;
-        k += 1;
+    let mut place = Some(c);
+    // Laid by their places: of what is written through chunks of the slice a proof knows only the length afterwards.
+    for k in 0..n {
+        if let Some(step) = place.and_then(plans::advance) {
+            room::lay(out, 16 * k, &entry_bytes(step.entry));
+            place = step.next;
+        }
     }
 }
 
-// The answer; the entries are written where there are slots for all of them.
-fn plan_into(entries: &mut [u8], q: PlanQuery) -> Planned
+// How many entries there are; they are written where there are slots for all of them.
+fn plan_into(entries: &mut [u8], q: PlanQuery) -> Result<u64, PlanError>
     ensures { (result ≡ planned_of q (length entries.old / 16)) × (entries.new ≡ plan_over q entries.old) }
 {
     let slots = (entries.len() / 16) as u64;
-    match plans::begin(q) {
-        Begun::InvalidAddress(last) => Planned {
-            number: 5,
-            last: last,
-            count: 0,
-        },
-        Begun::NoEraseInstruction => Planned {
-            number: 7,
-            last: 0,
-            count: 0,
-        },
-        Begun::Ready(count, cursor) => {
-            if count <= slots {
-                write_entries(entries, count, cursor);
-                return Planned {
-                    number: 0,
-                    last: 0,
-                    count: count,
-                };
-            }
-            Planned {
-                number: 11,
-                last: 0,
-                count: count,
-            }
-        }
+    let (count, cursor) = plans::begin(q)?;
+    if slots < count {
+        return Err(PlanError::NoRoom(count));
     }
+    write_entries(entries, count, cursor);
+    Ok(count)
 }
 
 pub fn query_of(s: Session, address: u32, size: u64) -> PlanQuery
     ensures { result ≡ query_of s address size }
 {
-    let settings = s.settings;
-    let params = s.params;
     PlanQuery {
-        settings: settings,
+        settings: s.settings,
         known: s.known,
-        params: params,
-        address: address,
+        params: s.params,
+        address,
         length: size,
     }
 }
 
-// Number a of the event record: what answer 5 reports, else the count.
-fn plan_number(p: Planned) -> u64
-    ensures { result ≡ plan_number p }
+// What a refusal reports: of 5 the last address, of 11 how many entries the plan has.
+pub fn error_word(e: PlanError) -> u64
+    ensures { result ≡ error_word e }
 {
-    if p.number == 5 {
-        return p.last as u64;
+    match e {
+        PlanError::InvalidAddress(report) => report.last as u64,
+        PlanError::NoEraseInstruction => 0,
+        PlanError::NoRoom(count) => count,
     }
-    p.count
 }
 
-fn plan_words(p: Planned) -> EventWords
-    ensures { result ≡ plan_words p }
+// The answer's number, whatever was asked for.
+pub fn number_of<T: Copy>(x: Result<T, PlanError>) -> u8
+    ensures { result ≡ number_of x }
+{
+    match x {
+        Ok(_) => Answer::Done.number(),
+        Err(e) => e.number(),
+    }
+}
+
+// Number a of the event record: the count, or what a refusal reports.
+#[tactic(auto, unfolding(crate::specs::Plans::plan_number))]
+fn plan_number(p: Result<u64, PlanError>) -> u64
+    ensures { result ≡ plan_number p }
+{
+    p.unwrap_or_else(error_word)
+}
+
+// The event record of an answer that has a number and at most two more.
+pub fn number_words(number: u8, a: u64, b: u64) -> EventWords
+    ensures { result ≡ number_words number a b }
 {
     EventWords {
-        head: p.number as u64,
+        head: number as u64,
         reply: 0,
         from: 0,
         len: 0,
         delay: 0,
         polls: 0,
-        a: plan_number(p),
-        b: 0,
+        a,
+        b,
     }
 }
 
@@ -140,11 +121,11 @@ pub fn moss_flash_make_erase_plan(
     ensures { (result ≡ (plan_called (opened_of session.now (length event.old)) address size entries.old event.old).number) × (entries.new ≡ (plan_called (opened_of session.now (length event.old)) address size entries.old event.old).room) × (event.new ≡ (plan_called (opened_of session.now (length event.old)) address size entries.old event.old).event) }
 {
     match crate::open(session, event.len()) {
-        Opened::Refused(n) => n,
-        Opened::Open(s) => {
+        Err(refusal) => refusal.number(),
+        Ok(s) => {
             let p = plan_into(entries, query_of(s, address, size));
-            records::write_words(event, plan_words(p));
-            p.number
+            records::write_words(event, number_words(number_of(p), plan_number(p), 0));
+            number_of(p)
         }
     }
 }

@@ -1,7 +1,7 @@
 // What C may ask besides running a command: the version, the parameters that a table gave, the span of a program. As exports.
 ghost use Rattle.std.specs.Prelude.{◌≡◌, length};
 ghost use Rattle.moss_flash.specs.Calls.{unpack_of, opened_of};
-ghost use Rattle.moss_flash.specs.Asked.{version, laid_from, params_called, span_words, span_called};
+ghost use Rattle.moss_flash.specs.Asked.{version, params_called, span_called};
 
 // The version of the interface: major, minor and patch, a byte each, the patch lowest.
 #[unsafe(no_mangle)]

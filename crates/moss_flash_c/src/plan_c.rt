@@ -1,10 +1,7 @@
 // The plan for C: each entry is a record of 16 bytes in a lent slice. As exports.
-ghost use Rattle.std.specs.Prelude.{◌≡◌, ◌*◌, ◌/◌, ◌≤◌, ◌++◌, length, drop};
-ghost use Rattle.packed.specs.Numbers.{four_of};
-ghost use Rattle.plans.specs.Planned.{planned_of};
-ghost use Rattle.plans.specs.Cursors.{ahead, Kept};
+ghost use Rattle.std.specs.Prelude.{◌≡◌, length};
 ghost use Rattle.moss_flash.specs.Calls.{opened_of};
-ghost use Rattle.moss_flash.specs.Plans.{query_of, entry_bytes, records_of, plan_number, plan_words, plan_over, plan_called};
+ghost use Rattle.moss_flash.specs.Plans.{plan_called};
 
 // The plan of a range: its entries, or a refusal that changes no slot.
 #[unsafe(no_mangle)]

@@ -1,10 +1,8 @@
 // The fresh session, the setters and the settings' record for C. As exports.
-ghost use Rattle.std.specs.Prelude.{◌≡◌, length};
+ghost use Rattle.std.specs.Prelude.{◌≡◌, Ok};
 ghost use Rattle.settings.specs.Limits.{set_address_bytes, set_page_size, set_erase_size, set_poll_limit, set_capacity, clear_capacity, set_erase_opcode};
-ghost use Rattle.settings.specs.declared.SetAnswer.TheVariants.{Set};
 ghost use Rattle.flash.specs.Starts.{setting};
-ghost use Rattle.packed.specs.Layout.{put_over};
-ghost use Rattle.moss_flash.specs.Calls.{unpack_of, number_in, new_of, set_called, settings_called};
+ghost use Rattle.moss_flash.specs.Calls.{unpack_of, new_of, set_called, settings_called};
 
 // A fresh session, where there are exactly 256 bytes for it; else 13.
 #[unsafe(no_mangle)]
@@ -37,7 +35,7 @@ pub extern "C" fn moss_flash_set_erase_size(session: &mut [u8], n: u64) -> u8
 
 #[unsafe(no_mangle)]
 pub extern "C" fn moss_flash_set_erase_opcode(session: &mut [u8], opcode: u8) -> u8
-    ensures { (result ≡ (set_called (unpack_of session.old) session.old (λ s. setting s (Set (set_erase_opcode s.settings opcode)))).number) × (session.new ≡ (set_called (unpack_of session.old) session.old (λ s. setting s (Set (set_erase_opcode s.settings opcode)))).session) }
+    ensures { (result ≡ (set_called (unpack_of session.old) session.old (λ s. setting s (Ok (set_erase_opcode s.settings opcode)))).number) × (session.new ≡ (set_called (unpack_of session.old) session.old (λ s. setting s (Ok (set_erase_opcode s.settings opcode)))).session) }
 {
     moss_flash::settings_c::moss_flash_set_erase_opcode(session, opcode)
 }
@@ -51,14 +49,14 @@ pub extern "C" fn moss_flash_set_poll_limit(session: &mut [u8], n: u32) -> u8
 
 #[unsafe(no_mangle)]
 pub extern "C" fn moss_flash_set_capacity(session: &mut [u8], n: u64) -> u8
-    ensures { (result ≡ (set_called (unpack_of session.old) session.old (λ s. setting s (Set (set_capacity s.settings n)))).number) × (session.new ≡ (set_called (unpack_of session.old) session.old (λ s. setting s (Set (set_capacity s.settings n)))).session) }
+    ensures { (result ≡ (set_called (unpack_of session.old) session.old (λ s. setting s (Ok (set_capacity s.settings n)))).number) × (session.new ≡ (set_called (unpack_of session.old) session.old (λ s. setting s (Ok (set_capacity s.settings n)))).session) }
 {
     moss_flash::settings_c::moss_flash_set_capacity(session, n)
 }
 
 #[unsafe(no_mangle)]
 pub extern "C" fn moss_flash_clear_capacity(session: &mut [u8]) -> u8
-    ensures { (result ≡ (set_called (unpack_of session.old) session.old (λ s. setting s (Set (clear_capacity s.settings)))).number) × (session.new ≡ (set_called (unpack_of session.old) session.old (λ s. setting s (Set (clear_capacity s.settings)))).session) }
+    ensures { (result ≡ (set_called (unpack_of session.old) session.old (λ s. setting s (Ok (clear_capacity s.settings)))).number) × (session.new ≡ (set_called (unpack_of session.old) session.old (λ s. setting s (Ok (clear_capacity s.settings)))).session) }
 {
     moss_flash::settings_c::moss_flash_clear_capacity(session)
 }

@@ -1,4 +1,5 @@
 -- Each premise is needed: a run that meets the others, and after which the memory is not as replayed.
+use Rattle.std.proofs.Common.{Option as Perhaps, Some, None}
 use mathlib.Core.Path.{◌≡◌, refl, sym, ap, ◌∙◌}
 use mathlib.Core.Bool.{Bool, true, false, cond}
 use mathlib.Core.Logic.{inl}
@@ -69,7 +70,7 @@ MeetsBut k x =
     -- 1: idle at first
     × But (eqb k 1) (x.busy ≡ 0)
     -- 2: capacity set and equal
-    × But (eqb k 2) ((x.kept.settings.capacity_set ≡ true) × (x.kept.settings.capacity ≡ x.part.capacity))
+    × But (eqb k 2) (x.kept.settings.capacity ≡ Some x.part.capacity)
     -- 3: same address bytes
     × But (eqb k 3) (x.kept.settings.address_bytes ≡ x.part.addressed)
     -- 4: the driver's page divides the part's
@@ -88,7 +89,7 @@ pub enough : (x : Run) → MeetsBut 0 x → Promises script x.part (λ i. 0) (no
 enough x h =
     demand3 x.part (now x).state x.kept (act x ∷ []) h.1 (λ i. omega arith) h.0 (
       record {
-        fits = inl (record { given = h.2.0; capacity = h.2.1; addressed = h.3; page = h.4; types = h.5; apart = h.6; poll = h.7 });
+        fits = inl (record { capacity = h.2; addressed = h.3; page = h.4; types = h.5; apart = h.6; poll = h.7 });
         ready = λ past. h.8;
         bytes = bytes_data (Program x.address (1 ∷ []) false) (omega arith, tt);
       },
@@ -114,11 +115,10 @@ part_of capacity erases =
 abbrev pub one : ℕ → ℕ → ℕ → Option ℕ
 one x size op = cond (eqb op x) (some size) none
 
--- settings: address bytes, whether a capacity is set, which, page size, erase size, erase opcode; 2 polls at most
-abbrev pub settings_of : ℕ → Bool → ℕ → ℕ → ℕ → ℕ → Settings
-settings_of bytes given capacity page size opcode = record {
+-- settings: address bytes, the capacity if there is one, page size, erase size, erase opcode; 2 polls at most
+abbrev pub settings_of : ℕ → Perhaps ℕ → ℕ → ℕ → ℕ → Settings
+settings_of bytes capacity page size opcode = record {
   address_bytes = bytes;
-  capacity_set = given;
   capacity = capacity;
   page_size = page;
   erase_size = size;
@@ -131,7 +131,7 @@ abbrev pub bare : Settings → Kept
 bare s = record { settings = s; known = false; params = no_params; room = [] }
 
 abbrev pub plain : Kept
-plain = bare (settings_of 1 true 16 4 4 0x20)
+plain = bare (settings_of 1 (Some 16) 4 4 0x20)
 
 -- the run that each of the others differs from in one thing
 abbrev pub good : Run
@@ -143,18 +143,18 @@ not_idle = record { part = part_of 16 (one 0x20 4); busy = 1; kept = plain; addr
 
 -- 2: no capacity, or another one; an address that the part does not have
 abbrev pub not_set : Run
-not_set = record { part = part_of 16 (one 0x20 4); busy = 0; kept = bare (settings_of 1 false 0 4 4 0x20); address = 21; wait = 2 }
+not_set = record { part = part_of 16 (one 0x20 4); busy = 0; kept = bare (settings_of 1 None 4 4 0x20); address = 21; wait = 2 }
 
 abbrev pub other_capacity : Run
 other_capacity = record { part = part_of 8 (one 0x20 4); busy = 0; kept = plain; address = 13; wait = 2 }
 
 -- 3: other address bytes; the part takes the first of two for the address
 abbrev pub other_address : Run
-other_address = record { part = part_of 16 (one 0x20 4); busy = 0; kept = bare (settings_of 2 true 16 4 4 0x20); address = 5; wait = 2 }
+other_address = record { part = part_of 16 (one 0x20 4); busy = 0; kept = bare (settings_of 2 (Some 16) 4 4 0x20); address = 5; wait = 2 }
 
 -- 4: a page of 8 does not divide one of 4; the write wraps
 abbrev pub other_page : Run
-other_page = record { part = part_of 16 (one 0x20 8); busy = 0; kept = bare (settings_of 1 true 16 8 8 0x20); address = 5; wait = 2 }
+other_page = record { part = part_of 16 (one 0x20 8); busy = 0; kept = bare (settings_of 1 (Some 16) 8 8 0x20); address = 5; wait = 2 }
 
 -- 5: 20 erases 8 bytes, not 4; more than was read
 abbrev pub other_size : Run
@@ -165,7 +165,7 @@ abbrev pub poll_erases : Run
 poll_erases = record { part = part_of 16 (λ op. cond (eqb op 0x05) (some 4) (one 0x20 4 op)); busy = 0; kept = plain; address = 5; wait = 2 }
 
 abbrev pub enable_erases : Run
-enable_erases = record { part = part_of 16 (one 0x06 4); busy = 0; kept = bare (settings_of 1 true 16 4 4 0x06); address = 5; wait = 2 }
+enable_erases = record { part = part_of 16 (one 0x06 4); busy = 0; kept = bare (settings_of 1 (Some 16) 4 4 0x06); address = 5; wait = 2 }
 
 -- 7: parameters that ask for polls by 70, which is not offered; FF says ready while the part is busy
 abbrev table : List ℕ
@@ -175,7 +175,7 @@ abbrev pub other_poll : Run
 other_poll = record {
   part = part_of 16 (one 0x20 4);
   busy = 0;
-  kept = record { settings = settings_of 1 true 16 4 4 0x20; known = true; params = params 5 16 table; room = [] };
+  kept = record { settings = settings_of 1 (Some 16) 4 4 0x20; known = true; params = params 5 16 table; room = [] };
   address = 5;
   wait = 2;
 }
@@ -196,9 +196,9 @@ computed = (refl, refl, refl, refl, refl, refl, refl, refl, refl, refl, refl)
 bare_possible : (s : Settings) → Sound s → Possible (bare s)
 bare_possible s h = record { sound = h; read = λ e. no_true e }
 
-plain_sound : Sound (settings_of 1 true 16 4 4 0x20)
+plain_sound : Sound (settings_of 1 (Some 16) 4 4 0x20)
 plain_sound =
-    record { address = (omega arith, omega arith); unset = λ e. no_true (sym e); page = omega arith; erase = omega arith; polls = (omega arith, omega arith) }
+    record { address = (omega arith, omega arith); page = omega arith; erase = omega arith; polls = (omega arith, omega arith) }
 
 -- an erase opcode that is none of the other commands
 pub one_apart : (x size : ℕ) → other_command x ≡ false → (op : ℕ) → other_command op ≡ true → one x size op ≡ none
@@ -219,14 +219,14 @@ plainly = bare_possible plain.settings plain_sound
 pub break_not_idle : Breaks 1 not_idle
 unfolding available of_settings present kept page_of by_flag
 break_not_idle = record {
-  meets = (plainly, tt, (refl, refl), refl, record { q = 1; is = refl }, (refl, tt), by_20 4, λ e. no_true e, omega arith);
+  meets = (plainly, tt, refl, refl, record { q = 1; is = refl }, (refl, tt), by_20 4, λ e. no_true e, omega arith);
   breaks = differs not_idle 5 0 1 (omega arith) computed.1 (λ e. omega arith);
 }
 
 pub break_not_set : Breaks 2 not_set
 unfolding available of_settings present kept page_of by_flag
 break_not_set = record {
-  meets = (bare_possible (settings_of 1 false 0 4 4 0x20) (record { address = (omega arith, omega arith); unset = λ e. refl; page = omega arith; erase = omega arith; polls = (omega arith, omega arith) }), refl, tt, refl, record { q = 1; is = refl }, (refl, tt), by_20 4, λ e. no_true e, omega arith);
+  meets = (bare_possible (settings_of 1 None 4 4 0x20) (record { address = (omega arith, omega arith); page = omega arith; erase = omega arith; polls = (omega arith, omega arith) }), refl, tt, refl, record { q = 1; is = refl }, (refl, tt), by_20 4, λ e. no_true e, omega arith);
   breaks = differs not_set 5 1 0 (omega arith) computed.2 (λ e. omega arith);
 }
 
@@ -240,48 +240,48 @@ break_other_capacity = record {
 pub break_other_address : Breaks 3 other_address
 unfolding available of_settings present kept page_of by_flag
 break_other_address = record {
-  meets = (bare_possible (settings_of 2 true 16 4 4 0x20) (record { address = (omega arith, omega arith); unset = λ e. no_true (sym e); page = omega arith; erase = omega arith; polls = (omega arith, omega arith) }), refl, (refl, refl), tt, record { q = 1; is = refl }, (refl, tt), by_20 4, λ e. no_true e, omega arith);
+  meets = (bare_possible (settings_of 2 (Some 16) 4 4 0x20) (record { address = (omega arith, omega arith); page = omega arith; erase = omega arith; polls = (omega arith, omega arith) }), refl, refl, tt, record { q = 1; is = refl }, (refl, tt), by_20 4, λ e. no_true e, omega arith);
   breaks = differs other_address 5 0 1 (omega arith) computed.4 (λ e. omega arith);
 }
 
 pub break_other_page : Breaks 4 other_page
 unfolding available of_settings present kept page_of by_flag
 break_other_page = record {
-  meets = (bare_possible (settings_of 1 true 16 8 8 0x20) (record { address = (omega arith, omega arith); unset = λ e. no_true (sym e); page = omega arith; erase = omega arith; polls = (omega arith, omega arith) }), refl, (refl, refl), refl, tt, (refl, tt), by_20 8, λ e. no_true e, omega arith);
+  meets = (bare_possible (settings_of 1 (Some 16) 8 8 0x20) (record { address = (omega arith, omega arith); page = omega arith; erase = omega arith; polls = (omega arith, omega arith) }), refl, refl, refl, tt, (refl, tt), by_20 8, λ e. no_true e, omega arith);
   breaks = differs other_page 5 255 1 (omega arith) computed.5 (λ e. omega arith);
 }
 
 pub break_other_size : Breaks 5 other_size
 unfolding available of_settings present kept page_of by_flag
 break_other_size = record {
-  meets = (plainly, refl, (refl, refl), refl, record { q = 1; is = refl }, tt, by_20 8, λ e. no_true e, omega arith);
+  meets = (plainly, refl, refl, refl, record { q = 1; is = refl }, tt, by_20 8, λ e. no_true e, omega arith);
   breaks = differs other_size 0 255 0 (omega arith) computed.6 (λ e. omega arith);
 }
 
 pub break_poll_erases : Breaks 6 poll_erases
 unfolding available of_settings present kept page_of by_flag
 break_poll_erases = record {
-  meets = (plainly, refl, (refl, refl), refl, record { q = 1; is = refl }, (refl, tt), tt, λ e. no_true e, omega arith);
+  meets = (plainly, refl, refl, refl, record { q = 1; is = refl }, (refl, tt), tt, λ e. no_true e, omega arith);
   breaks = differs poll_erases 5 255 1 (omega arith) computed.7 (λ e. omega arith);
 }
 
 pub break_enable_erases : Breaks 6 enable_erases
 unfolding available of_settings present kept page_of by_flag
 break_enable_erases = record {
-  meets = (bare_possible (settings_of 1 true 16 4 4 0x06) (record { address = (omega arith, omega arith); unset = λ e. no_true (sym e); page = omega arith; erase = omega arith; polls = (omega arith, omega arith) }), refl, (refl, refl), refl, record { q = 1; is = refl }, (refl, tt), tt, λ e. no_true e, omega arith);
+  meets = (bare_possible (settings_of 1 (Some 16) 4 4 0x06) (record { address = (omega arith, omega arith); page = omega arith; erase = omega arith; polls = (omega arith, omega arith) }), refl, refl, refl, record { q = 1; is = refl }, (refl, tt), tt, λ e. no_true e, omega arith);
   breaks = differs enable_erases 5 0 1 (omega arith) computed.8 (λ e. omega arith);
 }
 
 pub break_other_poll : Breaks 7 other_poll
 unfolding available of_settings present kept page_of by_flag all_zero usable_4k read_table accepted size_fits sizes_fit density_fits params fields extended erase_type erase_types byte_at le32
 break_other_poll = record {
-  meets = (record { sound = plain_sound; read = λ e. (5, 16, table, refl) }, refl, (refl, refl), refl, record { q = 1; is = refl }, (refl, tt), by_20 4, tt, omega arith);
+  meets = (record { sound = plain_sound; read = λ e. (5, 16, table, refl) }, refl, refl, refl, record { q = 1; is = refl }, (refl, tt), by_20 4, tt, omega arith);
   breaks = differs other_poll 5 255 1 (omega arith) computed.9 (λ e. omega arith);
 }
 
 pub break_too_slow : Breaks 8 too_slow
 unfolding available of_settings present kept page_of by_flag
 break_too_slow = record {
-  meets = (plainly, refl, (refl, refl), refl, record { q = 1; is = refl }, (refl, tt), by_20 4, λ e. no_true e, tt);
+  meets = (plainly, refl, refl, refl, record { q = 1; is = refl }, (refl, tt), by_20 4, λ e. no_true e, tt);
   breaks = differs too_slow 5 255 1 (omega arith) computed.10 (λ e. omega arith);
 }

@@ -1,4 +1,5 @@
 -- Reads, chip erase, erase_sectors and program_data on a part that fits.
+use Rattle.std.proofs.Common.{Result, Ok, Err}
 use mathlib.Core.Path.{◌≡◌, refl, sym, ap, ap₂, ◌∙◌, subst}
 use mathlib.Core.Bool.{true}
 use mathlib.Core.List.{List, [], ◌∷◌}
@@ -12,7 +13,6 @@ use Rattle.settings.specs.declared.Settings.{Settings}
 use Rattle.settings.specs.Ranges.{accepted_range, last_address}
 use Rattle.erase_plan.specs.declared.EraseType.{EraseType}
 use Rattle.erase_plan.specs.declared.EraseEntry.{EraseEntry}
-use Rattle.erase_plan.specs.declared.SpanCheck.TheVariants as Span
 use Rattle.erase_plan.specs.Good.{Each, Present, Aligned, Meets, Inside, Good, Kinds}
 use Rattle.erase_plan.specs.Plan.{entry_at, plan}
 use Rattle.erase_plan.specs.Span.{span_start, span_end, span_check, sectors_check}
@@ -185,7 +185,7 @@ module _ (p : Part) (w : Kept) (f : Fits p w) (k : Possible w) (t : EraseType) (
       es = plan_of w a (a + n)
 
   -- a span that passes its check is the range
-  pub exact : span_check a n (span_start (plan_of w a (a + n))) (span_end (plan_of w a (a + n))) ≡ Span.Fits
+  pub exact : span_check a n (span_start (plan_of w a (a + n))) (span_end (plan_of w a (a + n))) ≡ Ok tt
       → (span_start (plan_of w a (a + n)) ≡ a) × (span_end (plan_of w a (a + n)) ≡ a + n)
   unfolding sectors_check
   exact q = rw are (sectors_exact kinds.0 (t ∷ ts) kinds.1 a n more (rw are at q))
@@ -214,7 +214,7 @@ module _ (p : Part) (times : Times) (w : Kept) (s : State) (S : Started p times 
       b : Barred p
       b = barred p w S.fits
 
-      erases : Within p a n → (t : EraseType) (ts : List EraseType) → types_of w ≡ t ∷ ts → span_check a n (span_start es) (span_end es) ≡ Span.Fits
+      erases : Within p a n → (t : EraseType) (ts : List EraseType) → types_of w ≡ t ∷ ts → span_check a n (span_start es) (span_end es) ≡ Ok tt
           → Goal p times s c (after (each erase_one es w) (λ u. give Done))
       erases h t ts e q =
           let x : (span_start es ≡ a) × (span_end es ≡ a + n) = exact p w S.fits S.possible t ts e a n h.some q in

@@ -1,4 +1,5 @@
 -- How a command ends on a part that fits, and what its pieces rest on.
+use Rattle.std.proofs.Common.{Result, Ok, Err}
 use mathlib.Core.Path.{◌≡◌, refl, sym, ◌∙◌}
 use mathlib.Core.Bool.{Bool, true, false, cond}
 use mathlib.Core.List.{List, [], ◌∷◌}
@@ -10,8 +11,6 @@ use lib.ListN.{take}
 use Rattle.settings.specs.Ranges.{accepted_range}
 use Rattle.settings.proofs.Laws.{accepted_nonempty, accepted_reach, accepted_capacity}
 use Rattle.erase_plan.specs.declared.EraseType.{EraseType}
-use Rattle.erase_plan.specs.declared.SpanCheck.{SpanCheck}
-use Rattle.erase_plan.specs.declared.SpanCheck.TheVariants as Span
 use Rattle.erase_plan.proofs.Lists.{no_true}
 use Rattle.commands.specs.declared.Answer.{Answer}
 use Rattle.commands.specs.declared.Answer.TheVariants.{NoEraseInstruction}
@@ -95,7 +94,7 @@ barred p w f = barred_of p f.apart
 pub fits_roomed : (p : Part) (w : Kept) (room : List ℕ) → Fits p w → Fits p (roomed w room)
 unfolding by_flag
 fits_roomed p w room f =
-    record { given = f.given; capacity = f.capacity; addressed = f.addressed; page = f.page; types = f.types; apart = f.apart; poll = f.poll }
+    record { capacity = f.capacity; addressed = f.addressed; page = f.page; types = f.types; apart = f.apart; poll = f.poll }
 
 pub possible_roomed : (w : Kept) (room : List ℕ) → Possible w → Possible (roomed w room)
 possible_roomed w room k = record { sound = k.sound; read = k.read }
@@ -130,7 +129,7 @@ pub within_part : (p : Part) (w : Kept) → Fits p w → (a n : ℕ) → accepte
 within_part p w f a n h =
     record {
       some = accepted_nonempty w.settings a n h;
-      fits = omega (arith, accepted_capacity w.settings a n h f.given, f.capacity);
+      fits = omega (arith, accepted_capacity w.settings a n h p.capacity f.capacity);
       holds = rw (← f.addressed) (le_trans (accepted_reach w.settings a n h)
           (pow-le-pow_right {n = 256} (omega arith) (min-le_left w.settings.address_bytes 4)));
     }
@@ -150,7 +149,7 @@ module _ {B : Type 0} (P : Script B → Type 0) (w : Kept) (k : Unit {0} → Cmd
       go [] e = p
       go (t ∷ ts) e = q t ts e
 
-  pub span_case : (s : SpanCheck) → ((a : ℕ) → P (stop w (bad_range a))) → (s ≡ Span.Fits → P (k tt w)) → P (after (span_fits s w) k)
+  pub span_case : (s : Result (Unit {0}) ℕ) → ((a : ℕ) → P (stop w (bad_range a))) → (s ≡ Ok tt → P (k tt w)) → P (after (span_fits s w) k)
   unfolding after
-  span_case Span.Fits p q = q refl
-  span_case (Span.Bad a) p q = p a
+  span_case (Ok _) p q = q refl
+  span_case (Err a) p q = p a

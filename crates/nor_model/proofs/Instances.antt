@@ -93,12 +93,12 @@ small_premises = (
   record { fits = inr (inl refl, three_apart 4 8 16); ready = λ past. omega arith; bytes = bytes_data _ tt },
   (
     record {
-      fits = inl (record { given = refl; capacity = refl; addressed = refl; page = half; types = (refl, (refl, (refl, tt))); apart = three_apart 4 8 16; poll = λ e. no_true e });
+      fits = inl (record { capacity = refl; addressed = refl; page = half; types = (refl, (refl, (refl, tt))); apart = three_apart 4 8 16; poll = λ e. no_true e });
       ready = λ past. omega arith;
       bytes = bytes_data _ (omega arith, (omega arith, (omega arith, (omega arith, (omega arith, tt)))));
     },
     (
-      record { fits = inl (record { given = refl; capacity = refl; addressed = refl; page = half; types = (refl, (refl, (refl, tt))); apart = three_apart 4 8 16; poll = λ e. no_true e }); ready = λ past. omega arith; bytes = bytes_data _ tt },
+      record { fits = inl (record { capacity = refl; addressed = refl; page = half; types = (refl, (refl, (refl, tt))); apart = three_apart 4 8 16; poll = λ e. no_true e }); ready = λ past. omega arith; bytes = bytes_data _ tt },
       tt,
     ),
   ),
@@ -133,7 +133,7 @@ usual_premises = (
   record { fits = inr (inl refl, three_apart 4096 32768 65536); ready = λ past. omega arith; bytes = bytes_data _ tt },
   (
     record {
-      fits = inl (record { given = refl; capacity = refl; addressed = refl; page = same; types = (refl, (refl, (refl, tt))); apart = three_apart 4096 32768 65536; poll = λ e. no_true e });
+      fits = inl (record { capacity = refl; addressed = refl; page = same; types = (refl, (refl, (refl, tt))); apart = three_apart 4096 32768 65536; poll = λ e. no_true e });
       ready = λ past. omega arith;
       bytes = bytes_data _ (omega arith, (omega arith, (omega arith, tt)));
     },
@@ -162,13 +162,13 @@ odd_acts =
 odd_premises : Premises script odd fresh odd_acts
 unfolding exec tally respond byte_at ready polls after over each program accepted_range available of_settings present kept plan plan_in next_pos entry_at chosen chosen_from beats cover block_base block_end span_start span_end by_flag page_delay page_of to_page_end parts_in parts blank mismatch written refused bytes_from joined address_in whole write_enable operate erased block_erase onward and_at programmed page_program read_memory status1 read_status unless_busy obeyed high_first wire after_all read within erase_sectors span_check program_data other_command
 odd_premises = (
-  record { fits = inl (record { given = refl; capacity = refl; addressed = refl; page = half; types = (refl, tt); apart = one_apart 0x20 100 refl; poll = λ e. no_true e }); ready = λ past. omega arith; bytes = bytes_data _ tt },
+  record { fits = inl (record { capacity = refl; addressed = refl; page = half; types = (refl, tt); apart = one_apart 0x20 100 refl; poll = λ e. no_true e }); ready = λ past. omega arith; bytes = bytes_data _ tt },
   (
-    record { fits = inl (record { given = refl; capacity = refl; addressed = refl; page = half; types = (refl, tt); apart = one_apart 0x20 100 refl; poll = λ e. no_true e }); ready = λ past. omega arith; bytes = bytes_data (ProgramData 250 (0x0F ∷ 0xF0 ∷ [])) tt },
+    record { fits = inl (record { capacity = refl; addressed = refl; page = half; types = (refl, tt); apart = one_apart 0x20 100 refl; poll = λ e. no_true e }); ready = λ past. omega arith; bytes = bytes_data (ProgramData 250 (0x0F ∷ 0xF0 ∷ [])) tt },
     (
-      record { fits = inl (record { given = refl; capacity = refl; addressed = refl; page = half; types = (refl, tt); apart = one_apart 0x20 100 refl; poll = λ e. no_true e }); ready = λ past. omega arith; bytes = bytes_data _ tt },
+      record { fits = inl (record { capacity = refl; addressed = refl; page = half; types = (refl, tt); apart = one_apart 0x20 100 refl; poll = λ e. no_true e }); ready = λ past. omega arith; bytes = bytes_data _ tt },
       (
-        record { fits = inl (record { given = refl; capacity = refl; addressed = refl; page = half; types = (refl, tt); apart = one_apart 0x20 100 refl; poll = λ e. no_true e }); ready = λ past. omega arith; bytes = bytes_data _ (omega arith, (omega arith, (omega arith, (omega arith, (omega arith, (omega arith, (omega arith, (omega arith, (omega arith, (omega arith, tt)))))))))) },
+        record { fits = inl (record { capacity = refl; addressed = refl; page = half; types = (refl, tt); apart = one_apart 0x20 100 refl; poll = λ e. no_true e }); ready = λ past. omega arith; bytes = bytes_data _ (omega arith, (omega arith, (omega arith, (omega arith, (omega arith, (omega arith, (omega arith, (omega arith, (omega arith, (omega arith, tt)))))))))) },
         tt,
       ),
     ),

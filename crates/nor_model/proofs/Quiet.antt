@@ -1,4 +1,5 @@
 -- The commands that leave the memory alone: reset, ID, is_busy, is_protected, read_params.
+use Rattle.std.proofs.Common.{Result, Ok, Err}
 use mathlib.Core.Path.{◌≡◌, refl, sym, ap, ◌∙◌}
 use mathlib.Core.Bool.{Bool, true, false, cond, ◌&&◌, ◌||◌, not}
 use mathlib.Core.List.{List, [], ◌∷◌}
@@ -6,14 +7,14 @@ use mathlib.Core.Option.{none}
 use Prim.Native.Nat.{ℕ, ◌+◌, ◌*◌}
 use lib.Dec.{eqb, leb}
 use lib.ListN.{length}
+use Rattle.sfdp.specs.declared.FlashParams.{FlashParams}
+use Rattle.sfdp.specs.declared.SFDPParameterHeader.{SFDPParameterHeader}
+use Rattle.sfdp.specs.declared.SFDPError.{SFDPError}
 use Rattle.dwords.specs.Dwords.{byte_at}
 use Rattle.sfdp.specs.Jesd216.{headers, read_header, read_table}
-use Rattle.sfdp.specs.declared.ReadHeader.{ReadHeader}
-use Rattle.sfdp.specs.declared.ReadHeader.TheVariants as OfHeader
-use Rattle.sfdp.specs.declared.ReadParams.{ReadParams}
-use Rattle.sfdp.specs.declared.ReadParams.TheVariants as OfTable
 use Rattle.erase_plan.proofs.Lists.{no_true}
 use Rattle.settings.proofs.Laws.{update_sound}
+use Rattle.commands.specs.Answers.{refusal_of}
 use Rattle.commands.specs.declared.Answer.{Answer}
 use Rattle.commands.specs.declared.Answer.TheVariants.{Done, NoResetInstruction, InvalidSFDPParams, NoRoom}
 use Rattle.commands.specs.Answers.{number_of}
@@ -142,20 +143,19 @@ module _ (p : Part) (b : Barred p) (times : Times) (w : Kept) (k : Possible w) (
   unfolding after
   table_does minor count table room past s i = go (read_table minor count table) refl
     where
-      go : (x : ReadParams) → read_table minor count table ≡ x → Quietly past s (with_table x (roomed w room))
-      go OfTable.InvalidSFDPParams e = ended_still Call.ReadParams still m (roomed w room) InvalidSFDPParams s (λ e. no_true e) i (possible_roomed w room k)
-      go (OfTable.Params x) e =
+      go : (x : Result FlashParams SFDPError) → read_table minor count table ≡ x → Quietly past s (with_table x (roomed w room))
+      go (Err y) e = ended_still Call.ReadParams still m (roomed w room) (refusal_of y) s (λ e. no_true e) i (possible_roomed w room k)
+      go (Ok x) e =
           ended_still Call.ReadParams still m _ Done s (λ e. no_true e) i
           (record {
             sound = update_sound w.settings k.sound minor count table x e;
             read = λ _. (minor, count, table, e);
           })
 
-  header_does : (x : ReadHeader) (room : List ℕ) (past : List (List ℕ)) (s : State) → Idle m s → Quietly past s (with_header x (roomed w room))
+  header_does : (x : Result SFDPParameterHeader SFDPError) (room : List ℕ) (past : List (List ℕ)) (s : State) → Idle m s → Quietly past s (with_header x (roomed w room))
   unfolding after
-  header_does OfHeader.NoSFDP room past s i = ended_still Call.ReadParams still m _ _ s (λ e. no_true e) i (possible_roomed w room k)
-  header_does OfHeader.InvalidSFDPHeader room past s i = ended_still Call.ReadParams still m _ _ s (λ e. no_true e) i (possible_roomed w room k)
-  header_does (OfHeader.Header h) room past s i = (
+  header_does (Err y) room past s i = ended_still Call.ReadParams still m _ _ s (λ e. no_true e) i (possible_roomed w room k)
+  header_does (Ok h) room past s i = (
     no_erase_lem p (0, 0) (read_sfdp h.ptp (4 * h.plen)) b.op_5a,
     table_does h.minor h.plen _ _ _ _ (sfdp_idle h.ptp (4 * h.plen) past s i),
   )

@@ -1,4 +1,5 @@
 -- Demand 3: every command, and every sequence of them.
+use Rattle.std.proofs.Common.{Result, Ok, Err}
 use mathlib.Core.Path.{◌≡◌, refl, sym, ap, ◌∙◌, subst}
 use mathlib.Core.Bool.{Bool, true, false, cond}
 use mathlib.Core.Logic.{⊎_elim}
@@ -7,8 +8,7 @@ use Prim.Native.Nat.{ℕ}
 use native.Mathlib.Omega.{arith}
 use lib.ListN.{take}
 use Rattle.settings.specs.declared.Settings.{Settings}
-use Rattle.settings.specs.declared.SetAnswer.{SetAnswer}
-use Rattle.settings.specs.declared.SetAnswer.TheVariants.{Set, BadSetting}
+use Rattle.settings.specs.declared.SettingError.{SettingError}
 use Rattle.settings.specs.Limits.{Sound, set_address_bytes, set_page_size, set_erase_size, set_poll_limit}
 use Rattle.settings.proofs.Laws.{set_address_bytes_sound, set_page_size_sound, set_erase_size_sound, set_poll_limit_sound, set_capacity_sound, clear_capacity_sound, set_erase_opcode_sound}
 use Rattle.erase_plan.specs.Good.{Each}
@@ -74,9 +74,9 @@ effect_bytes IsBusy d m h = h
 effect_bytes IsProtected d m h = h
 
 -- ---- setters
-settled_sound : (s : Settings) → Sound s → (a : SetAnswer) → ((t : Settings) → a ≡ Set t → Sound t) → Sound (settled s a)
-settled_sound s k (Set t) h = h t refl
-settled_sound s k BadSetting h = k
+settled_sound : (s : Settings) → Sound s → (a : Result Settings SettingError) → ((t : Settings) → a ≡ Ok t → Sound t) → Sound (settled s a)
+settled_sound s k (Ok t) h = h t refl
+settled_sound s k (Err e) h = k
 
 set_sound : (x : Setter) (s : Settings) → Sound s → Sound (set_by x s)
 set_sound (AddressBytes n) s k = settled_sound s k (set_address_bytes s n) (set_address_bytes_sound s k n)

@@ -113,7 +113,6 @@ assumed : Assumed (part_of 16 (one 0x20 4)) plain (Program 3 (1 ∷ 2 ∷ 3 ∷ 
 unfolding available of_settings present kept page_of by_flag other_command
 assumed = record {
   fits = inl (record {
-    given = refl;
     capacity = refl;
     addressed = refl;
     page = record { q = 1; is = refl };

@@ -1,11 +1,9 @@
 -- Demand 3: on a part that fits, the flash always holds what the accepted commands say.
-use Rattle.std.specs.Prelude.{◌≡◌, Bool, true, false, cond, ◌⊎◌, List, [], ◌∷◌, ◌++◌, ℕ, ◌+◌, ◌≤◌, ◌<◌, length, take, drop}
+use Rattle.std.specs.Prelude.{◌≡◌, Bool, true, false, cond, ◌⊎◌, List, [], ◌∷◌, ◌++◌, ℕ, ◌+◌, ◌≤◌, ◌<◌, length, take, drop, Result, Ok, Err}
 use Rattle.std.proofs.Math.Option.{some}
 use Rattle.sfdp.specs.Jesd216.{read_table}
-use Rattle.sfdp.specs.declared.ReadParams.TheVariants.{Params}
 use Rattle.settings.specs.declared.Settings.{Settings}
-use Rattle.settings.specs.declared.SetAnswer.{SetAnswer}
-use Rattle.settings.specs.declared.SetAnswer.TheVariants.{Set, BadSetting}
+use Rattle.settings.specs.declared.SettingError.{SettingError}
 use Rattle.settings.specs.Limits.{Sound, set_address_bytes, set_page_size, set_erase_size, set_erase_opcode, set_poll_limit, set_capacity, clear_capacity}
 use Rattle.erase_plan.specs.Good.{Each, Mult}
 use Rattle.commands.specs.Answers.{number_of}
@@ -31,19 +29,19 @@ pub data Act : Type 0 where
   Setting : Setter → Act
 
 -- whether a setter takes its argument: what crate settings says of it
-abbrev pub tried : Setter → Settings → SetAnswer
+abbrev pub tried : Setter → Settings → Result Settings SettingError
 tried (AddressBytes n) s = set_address_bytes s n
 tried (PageSize n) s = set_page_size s n
 tried (EraseSize n) s = set_erase_size s n
-tried (EraseOpcode n) s = Set (set_erase_opcode s n)
+tried (EraseOpcode n) s = Ok (set_erase_opcode s n)
 tried (PollLimit n) s = set_poll_limit s n
-tried (Capacity n) s = Set (set_capacity s n)
-tried NoCapacity s = Set (clear_capacity s)
+tried (Capacity n) s = Ok (set_capacity s n)
+tried NoCapacity s = Ok (clear_capacity s)
 
 -- a refused setter changes nothing
-abbrev pub settled : Settings → SetAnswer → Settings
-settled s (Set t) = t
-settled s BadSetting = s
+abbrev pub settled : Settings → Result Settings SettingError → Settings
+settled s (Ok t) = t
+settled s (Err e) = s
 
 abbrev pub set_by : Setter → Settings → Settings
 set_by x s = settled s (tried x s)
@@ -69,7 +67,7 @@ set_to x now = record {
 -- what a driver can keep: settings within their limits, parameters from a table if there are any
 pub record Possible (w : Kept) : Type 0 where
   pub sound : Sound w.settings
-  pub read : w.known ≡ true → (minor : ℕ) × (count : ℕ) × (table : List ℕ) × (read_table minor count table ≡ Params w.params)
+  pub read : w.known ≡ true → (minor : ℕ) × (count : ℕ) × (table : List ℕ) × (read_table minor count table ≡ Ok w.params)
 
 -- the commands that ask the part what it is
 abbrev pub Asking : Call → Type 0

@@ -1,5 +1,5 @@
 -- That a part fits the settings: what each command may rely on when it starts. That it is idle at first is a fact on its state.
-use Rattle.std.specs.Prelude.{◌≡◌, Bool, true, ◌||◌, ℕ, eqb}
+use Rattle.std.specs.Prelude.{◌≡◌, Bool, true, ◌||◌, ℕ, eqb, Some}
 use Rattle.std.proofs.Math.Option.{some, none}
 use Rattle.settings.specs.Limits.{page_of}
 use Rattle.erase_plan.specs.declared.EraseType.{EraseType}
@@ -21,8 +21,7 @@ Apart p = (op : ℕ) → other_command op ≡ true → p.erases op ≡ none
 
 pub record Fits (p : Part) (w : Kept) : Type 0 where
   -- capacity set and equal
-  pub given : w.settings.capacity_set ≡ true
-  pub capacity : w.settings.capacity ≡ p.capacity
+  pub capacity : w.settings.capacity ≡ Some p.capacity
   -- same address bytes
   pub addressed : w.settings.address_bytes ≡ p.addressed
   -- the driver's page divides its page

@@ -8,11 +8,7 @@ pub fn set_ff(memory: &mut [u8], from: usize, to: usize)
     requires { (from ≤ to) × (to ≤ length memory.old) }
     ensures { mem_of memory.new ≡ set_between from to (mem_of memory.old) }
 {
-    let mut at = from;
-    while at < to {
-        memory[at] = 0xFF;
-        at += 1;
-    }
+    memory[from..to].fill(0xFF);
 }
 
 // Sets the aligned block that an address is in to FF.
@@ -27,14 +23,11 @@ pub fn erase_block(memory: &mut [u8], size: u32, a: u32)
     let block = size as usize;
     let cell = a as usize % capacity;
     let base = cell - cell % block;
-    if block <= capacity - base {
-        set_ff(memory, base, base + block);
-    } else {
-        set_ff(memory, base, capacity);
-    }
+    set_ff(memory, base, capacity.min(base + block));
 }
 
 // The address after an address: after the page's last comes its first.
+#[tactic(auto, using(crate::proofs::Contents::page_before), unfolding(nor_model::specs::Device::onward))]
 fn after(page: u32, a: u64) -> u64
     requires { (1 ≤ page) × (a < 2 ^ 63) }
     ensures { result ≡ onward page a }
@@ -57,11 +50,9 @@ pub fn program(memory: &mut [u8], page: u32, a: u32, data: &[u8])
         return;
     }
     let mut place = a as u64;
-    let mut i = 0;
-    while i < data.len() {
+    for byte in data {
         let cell = (place % capacity) as usize;
-        memory[cell] = memory[cell] & data[i];
+        memory[cell] &= *byte;
         place = after(page, place);
-        i += 1;
     }
 }

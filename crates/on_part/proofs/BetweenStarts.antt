@@ -1,4 +1,5 @@
 -- What a start hands back: refused, all is as it was; begun, it needs the command's room.
+use Rattle.std.proofs.Common.{Result, Ok, Err}
 use mathlib.Core.Path.{◌≡◌, refl, sym, ap, ◌∙◌}
 use mathlib.Core.Bool.{Bool, true, false, not, ◌&&◌, ◌||◌}
 use mathlib.Core.List.{List}
@@ -8,8 +9,6 @@ use lib.Dec.{eqb, ltb, leb}
 use lib.ListN.{length}
 use Rattle.settings.specs.Ranges.{accepted_range, last_address}
 use Rattle.settings.proofs.Laws.{accepted_nonempty}
-use Rattle.erase_plan.specs.declared.SpanCheck.{SpanCheck}
-use Rattle.erase_plan.specs.declared.SpanCheck.TheVariants as Span
 use Rattle.erase_plan.specs.Plan.{plan}
 use Rattle.erase_plan.specs.Span.{span_start, span_end, survey_of, span_check}
 use Rattle.erase_plan.proofs.Lists.{by_cond, no_true, no_false}
@@ -134,10 +133,10 @@ module _ (s : Session) (idle : Idle s) (room : List ℕ) (n : ℕ) where
   unfolding room_for refused
   room_gives k x h = by_cond (λ (y : Stepped). Gives y) (ltb (length room) k) _ x (λ t. refusal (NoRoom k) refl) (λ t. h)
 
-  span_gives : (o : SpanCheck) (x : Stepped) → Gives x → Gives (span_fits s o x)
+  span_gives : (o : Result (Unit {0}) ℕ) (x : Stepped) → Gives x → Gives (span_fits s o x)
   unfolding refused
-  span_gives Span.Fits x h = h
-  span_gives (Span.Bad a) x h = refusal (invalid a) refl
+  span_gives (Ok _) x h = h
+  span_gives (Err a) x h = refusal (invalid a) refl
 
   -- ---- over the starts with data
   module _ (d : List ℕ) where

@@ -1,21 +1,19 @@
 -- A step keeps the need of its command, whatever the reply; an ended command repeats its answer.
+use Rattle.std.proofs.Common.{Some, None, Option, Result, Ok, Err}
 use mathlib.Core.Path.{◌≡◌, refl, sym, ap, ◌∙◌}
 use mathlib.Core.Bool.{Bool, true, false, cond}
 use mathlib.Core.List.{List}
-use mathlib.Core.Option.{Option, some, none}
 use Prim.Native.Nat.{ℕ, ◌+◌, ◌-◌, ◌<◌}
 use lib.Dec.{eqb, ltb}
 use lib.ListN.{length, take}
 use borrow.Author.Tests.{lt-ltb}
+use Rattle.sfdp.specs.declared.FlashParams.{FlashParams}
+use Rattle.sfdp.specs.declared.SFDPParameterHeader.{SFDPParameterHeader}
+use Rattle.sfdp.specs.declared.SFDPError.{SFDPError}
 use Rattle.dwords.specs.Dwords.{byte_at}
 use Rattle.sfdp.specs.Jesd216.{read_header, read_table}
-use Rattle.sfdp.specs.declared.ReadHeader.{ReadHeader}
-use Rattle.sfdp.specs.declared.ReadHeader.TheVariants as OfHeader
-use Rattle.sfdp.specs.declared.ReadParams.{ReadParams}
-use Rattle.sfdp.specs.declared.ReadParams.TheVariants as OfTable
 use Rattle.settings.specs.Limits.{page_of}
-use Rattle.erase_plan.specs.declared.Next.{Next}
-use Rattle.erase_plan.specs.declared.Next.TheVariants.{Nothing, Entry}
+use Rattle.erase_plan.specs.declared.NextEntry.{NextEntry}
 use Rattle.erase_plan.proofs.Lists.{by_cond, no_true, no_false}
 use Rattle.commands.specs.declared.Answer.TheVariants.{Access, Busy, NoRoom}
 use Rattle.commands.specs.Commands.{id_at}
@@ -60,16 +58,15 @@ after_still : (J : Job) → Still (span_of J) (to_after J)
 unfolding to_after need_of read_need erase_need
 after_still J = by_still (span_of J) (ltb J.last J.top) _ _ (λ e. refl) (λ e. refl)
 
-header_still : (h : ReadHeader) → Still 2056 (with_header h)
+header_still : (h : Result SFDPParameterHeader SFDPError) → Still 2056 (with_header h)
 unfolding with_header need_of read_need is_ended
-header_still OfHeader.NoSFDP e = no_false e
-header_still OfHeader.InvalidSFDPHeader e = no_false e
-header_still (OfHeader.Header h) e = refl
+header_still (Err x) e = no_false e
+header_still (Ok h) e = refl
 
-table_still : (s : Session) (n : ℕ) (t : ReadParams) → Still 2056 (with_table s n t).phase
+table_still : (s : Session) (n : ℕ) (t : Result FlashParams SFDPError) → Still 2056 (with_table s n t).phase
 unfolding with_table is_ended
-table_still s n OfTable.InvalidSFDPParams e = no_false e
-table_still s n (OfTable.Params p) e = no_false e
+table_still s n (Err x) e = no_false e
+table_still s n (Ok p) e = no_false e
 
 -- the ID is asked for again, or told
 id_still : (r : List ℕ) → Still 0 (after_read Reads.Id r)
@@ -89,10 +86,10 @@ read_still s n Reads.IdAgain r e = no_false e
 read_still s n Reads.Protected r e = no_false e
 
 -- ---- after an operation's polls
-next_still : (n : ℕ) (x : Next) (last : ℕ) (on : ℕ → Phase) (over' : Phase) → ((p : ℕ) → Still n (on p)) → Still n over' → Still n (next_erase x last on over')
+next_still : (n : ℕ) (x : Option NextEntry) (last : ℕ) (on : ℕ → Phase) (over' : Phase) → ((p : ℕ) → Still n (on p)) → Still n over' → Still n (next_erase x last on over')
 unfolding next_erase
-next_still n Nothing last on over' f g = g
-next_still n (Entry a stop) last on over' f g = by_still n (ltb stop last) (on (stop + 1)) over' (f (stop + 1)) g
+next_still n None last on over' f g = g
+next_still n (Some x) last on over' f g = by_still n (ltb x.stop last) (on (x.stop + 1)) over' (f (x.stop + 1)) g
 
 erased_still : (s : Session) (c : EraseCommand) (room : List ℕ) → Still (erase_need c) (after_erase s c room)
 unfolding after_erase need_of erase_need write_need is_ended
@@ -132,8 +129,8 @@ polls_still limit c = by_still (poll_need c) (eqb limit 0) _ _ (λ e. no_false e
 -- ---- after the others
 judged_still : (J : Job) (m : Option Mismatch) → Still (span_of J) (judged J m)
 unfolding judged need_of verify_need is_ended
-judged_still J none e = no_false e
-judged_still J (some m) e = refl
+judged_still J None e = no_false e
+judged_still J (Some m) e = refl
 
 verified_still : (c : VerifyCommand) (r room : List ℕ) → Still (verify_need c) (verify_on c r room)
 unfolding verify_on verify_need is_ended

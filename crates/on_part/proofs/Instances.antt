@@ -85,13 +85,13 @@ odd_keeps =
 pub odd_premises : Premises odd start odd_acts
 unfolding serve respond byte_at ready accepted_range available of_settings present kept plan plan_in next_pos next_of entry_at chosen chosen_from beats cover block_base block_end span_start span_end survey_of span_check by_flag page_of blank refused bytes_from joined address_in whole write_enable operate erased block_erase onward and_at programmed page_program read_memory status1 read_status unless_busy obeyed high_first wire within pages other_command laid over part_of read_tx entry_for block_tx erase_tx part_last page_pause page_tx write_tx flagged poll_tx verify_tx waits_on read_need erase_need write_need poll_need verify_need need_of event_of told to_after to_before read_on after_read read_room to_polls last_written next_erase after_erase next_write to_verify after_write after_polls still_busy poll_on first_differs judged verify_on advanced room_after is_ended counted is_full step_of unless_runs in_range have_types room_for start_read start_erase_sectors begin_program start_program begin_data start_program_data setting
 odd_premises = (
-  record { fits = inl (record { given = refl; capacity = refl; addressed = refl; page = half; types = (refl, tt); apart = one_apart 0x20 100 refl; poll = λ e. no_true e }); ready = λ past. omega arith; bytes = bytes_data _ tt },
+  record { fits = inl (record { capacity = refl; addressed = refl; page = half; types = (refl, tt); apart = one_apart 0x20 100 refl; poll = λ e. no_true e }); ready = λ past. omega arith; bytes = bytes_data _ tt },
   (
-    record { fits = inl (record { given = refl; capacity = refl; addressed = refl; page = half; types = (refl, tt); apart = one_apart 0x20 100 refl; poll = λ e. no_true e }); ready = λ past. omega arith; bytes = bytes_data (ProgramData 250 (0x0F ∷ 0xF0 ∷ [])) tt },
+    record { fits = inl (record { capacity = refl; addressed = refl; page = half; types = (refl, tt); apart = one_apart 0x20 100 refl; poll = λ e. no_true e }); ready = λ past. omega arith; bytes = bytes_data (ProgramData 250 (0x0F ∷ 0xF0 ∷ [])) tt },
     (
-      record { fits = inl (record { given = refl; capacity = refl; addressed = refl; page = half; types = (refl, tt); apart = one_apart 0x20 100 refl; poll = λ e. no_true e }); ready = λ past. omega arith; bytes = bytes_data _ tt },
+      record { fits = inl (record { capacity = refl; addressed = refl; page = half; types = (refl, tt); apart = one_apart 0x20 100 refl; poll = λ e. no_true e }); ready = λ past. omega arith; bytes = bytes_data _ tt },
       (
-        record { fits = inl (record { given = refl; capacity = refl; addressed = refl; page = half; types = (refl, tt); apart = one_apart 0x20 100 refl; poll = λ e. no_true e }); ready = λ past. omega arith; bytes = bytes_data _ (omega arith, (omega arith, (omega arith, (omega arith, (omega arith, (omega arith, (omega arith, (omega arith, (omega arith, (omega arith, tt)))))))))) },
+        record { fits = inl (record { capacity = refl; addressed = refl; page = half; types = (refl, tt); apart = one_apart 0x20 100 refl; poll = λ e. no_true e }); ready = λ past. omega arith; bytes = bytes_data _ (omega arith, (omega arith, (omega arith, (omega arith, (omega arith, (omega arith, (omega arith, (omega arith, (omega arith, (omega arith, tt)))))))))) },
         tt,
       ),
     ),

@@ -1,9 +1,10 @@
 -- Demand 3 of the driver itself: every sequence of commands and setters.
+use Rattle.std.proofs.Common.{Result, Ok, Err}
 use mathlib.Core.Path.{◌≡◌, refl, sym, subst}
 use mathlib.Core.List.{List, [], ◌∷◌}
 use Prim.Native.Nat.{ℕ, ◌<◌}
-use Rattle.settings.specs.declared.SetAnswer.{SetAnswer}
-use Rattle.settings.specs.declared.SetAnswer.TheVariants.{Set, BadSetting}
+use Rattle.settings.specs.declared.Settings.{Settings}
+use Rattle.settings.specs.declared.SettingError.{SettingError}
 use Rattle.commands.specs.Calls.{Call}
 use Rattle.flash.specs.declared.Session.{Session}
 use Rattle.flash.specs.Starts.{unless_runs, setting, with_settings}
@@ -18,13 +19,13 @@ use Rattle.on_part.specs.OnPart.{setter_of, ServedAs, Stand, now_of, after, set_
 use Rattle.on_part.proofs.Serving.{serves}
 
 -- ---- a setter: an idle session keeps all but its settings, and those are as the setter says
-abbrev with_set : Session → SetAnswer → Session
+abbrev with_set : Session → Result Settings SettingError → Session
 with_set s a = with_settings s (settled s.settings a)
 
-set_session : (s : Session) → Idle s → (a : SetAnswer) → (setting s a).session ≡ with_set s a
+set_session : (s : Session) → Idle s → (a : Result Settings SettingError) → (setting s a).session ≡ with_set s a
 unfolding setting unless_runs
-set_session s i (Set t) = rw i
-set_session s i BadSetting = rw i
+set_session s i (Ok t) = rw i
+set_session s i (Err e) = rw i
 
 pub setter_session : (x : Setter) (s : Session) → Idle s → (setter_of x s).session ≡ with_settings s (set_by x s.settings)
 setter_session x s i = set_session s i (tried x s.settings)

@@ -1,4 +1,5 @@
 -- What a start hands back is an answer exactly if its session is idle.
+use Rattle.std.proofs.Common.{Result, Ok, Err}
 use mathlib.Core.Path.{◌≡◌, refl, sym}
 use mathlib.Core.Bool.{Bool, true, false, not, ◌&&◌, ◌||◌}
 use mathlib.Core.List.{List}
@@ -6,8 +7,6 @@ use Prim.Native.Nat.{ℕ, ◌+◌, ◌-◌}
 use lib.Dec.{eqb, ltb, leb}
 use lib.ListN.{length}
 use Rattle.settings.specs.Ranges.{accepted_range, last_address}
-use Rattle.erase_plan.specs.declared.SpanCheck.{SpanCheck}
-use Rattle.erase_plan.specs.declared.SpanCheck.TheVariants as Span
 use Rattle.erase_plan.specs.Span.{span_check}
 use Rattle.erase_plan.proofs.Lists.{by_cond, no_true}
 use Rattle.commands.specs.declared.Answer.{Answer}
@@ -99,9 +98,9 @@ module _ (s : Session) (P : Stepped → Type 0) (refusal : (a : Answer) → P (r
   unfolding room_for
   room_by n room x h = by_cond P (ltb room n) _ x (λ t. refusal (NoRoom n)) (λ t. h)
 
-  span_by : (o : SpanCheck) (x : Stepped) → P x → P (span_fits s o x)
-  span_by Span.Fits x h = h
-  span_by (Span.Bad a) x h = refusal (invalid a)
+  span_by : (o : Result (Unit {0}) ℕ) (x : Stepped) → P x → P (span_fits s o x)
+  span_by (Ok _) x h = h
+  span_by (Err a) x h = refusal (invalid a)
 
   -- over the starts with data
   check_by : (ok : Bool) (a : Answer) (b : Start) → P (start_out b) → P (start_out (checked ok s a b))

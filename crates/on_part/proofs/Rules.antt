@@ -1,11 +1,12 @@
 -- What docs/SCOPE.md says of a session between the transactions holds.
+use Rattle.std.proofs.Common.{Result, Ok, Err}
 use mathlib.Core.Path.{◌≡◌, refl, sym, ap, ◌∙◌}
 use mathlib.Core.Bool.{Bool, true, false}
 use mathlib.Core.List.{List}
 use Prim.Native.Nat.{ℕ}
 use Rattle.settings.specs.declared.Settings.{Settings}
-use Rattle.settings.specs.declared.SetAnswer.{SetAnswer}
-use Rattle.settings.specs.declared.SetAnswer.TheVariants.{Set, BadSetting as Refused}
+use Rattle.settings.specs.declared.SettingError.{SettingError}
+use Rattle.settings.specs.declared.SettingError.TheVariants as Limit
 use Rattle.erase_plan.proofs.Lists.{no_true}
 use Rattle.commands.specs.declared.Answer.{Answer}
 use Rattle.commands.specs.declared.Answer.TheVariants.{Done, BadSetting, BadSession}
@@ -35,15 +36,15 @@ pub setter_runs : (x : Setter) (s : Session) → Runs s → setter_of x s ≡ re
 unfolding setting unless_runs
 setter_runs x s h = rw h
 
-pub idle_setting : (s : Session) (a : SetAnswer) → Idle s → setting s a ≡ set_to s a
+pub idle_setting : (s : Session) (a : Result Settings SettingError) → Idle s → setting s a ≡ set_to s a
 unfolding setting unless_runs
 idle_setting s a i = rw i
 
 module _ (x : Setter) (s : Session) (i : Idle s) where
-  setter_refused : tried x s.settings ≡ Refused → setter_of x s ≡ record { session = s; event = Answered BadSetting 0 }
+  setter_refused : tried x s.settings ≡ Err Limit.BadSetting → setter_of x s ≡ record { session = s; event = Answered BadSetting 0 }
   setter_refused e = idle_setting s (tried x s.settings) i ∙ ap (set_to s) e
 
-  setter_taken : (new : Settings) → tried x s.settings ≡ Set new
+  setter_taken : (new : Settings) → tried x s.settings ≡ Ok new
       → setter_of x s ≡ record { session = with_settings s (set_by x s.settings); event = Answered Done 0 }
   setter_taken new e =
       let q : set_by x s.settings ≡ new = ap (settled s.settings) e in

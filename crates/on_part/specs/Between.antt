@@ -1,8 +1,8 @@
 -- What docs/SCOPE.md, Answer numbers, says of a session between the transactions: 13 while a command runs, refusals, 11 at a step, an ended command, a
 -- fresh session.
-use Rattle.std.specs.Prelude.{◌≡◌, Bool, true, false, List, ℕ, ◌<◌, length}
+use Rattle.std.specs.Prelude.{◌≡◌, Bool, true, false, List, ℕ, ◌<◌, length, Result, Ok, Err}
 use Rattle.settings.specs.declared.Settings.{Settings}
-use Rattle.settings.specs.declared.SetAnswer.TheVariants.{Set, BadSetting as Refused}
+use Rattle.settings.specs.declared.SettingError.TheVariants as Limit
 use Rattle.commands.specs.declared.Answer.{Answer}
 use Rattle.commands.specs.declared.Answer.TheVariants.{Done, BadSetting, NoRoom, BadSession}
 use Rattle.commands.specs.Calls.{Call}
@@ -50,10 +50,10 @@ pub record Between : Type 0 where
   pub start_refused : (c : Call) (s : Session) (room : List ℕ) (a : Answer) (n : ℕ) → Idle s → (start_of c s room).out.event ≡ Answered a n
       → refused a ≡ true → start_of c s room ≡ stays s room a 0
   -- a refused setter changes nothing either
-  pub setter_refused : (x : Setter) (s : Session) → Idle s → tried x s.settings ≡ Refused
+  pub setter_refused : (x : Setter) (s : Session) → Idle s → tried x s.settings ≡ Err Limit.BadSetting
       → setter_of x s ≡ record { session = s; event = Answered BadSetting 0 }
   -- one that is not refused changes the settings alone, and is Done
-  pub setter_taken : (x : Setter) (s : Session) (new : Settings) → Idle s → tried x s.settings ≡ Set new
+  pub setter_taken : (x : Setter) (s : Session) (new : Settings) → Idle s → tried x s.settings ≡ Ok new
       → setter_of x s ≡ record {
         session = record { settings = set_by x s.settings; known = s.known; params = s.params; phase = s.phase; polls = s.polls };
         event = Answered Done 0;

@@ -1,10 +1,8 @@
 -- The chosen examples of docs/SCOPE.md, as one table.
-use Rattle.std.specs.Prelude.{◌≡◌, false, [], ◌∷◌, replicate}
+use Rattle.std.specs.Prelude.{◌≡◌, false, [], ◌∷◌, replicate, Result, Ok, Err}
 use Rattle.sfdp.specs.declared.FlashParams.{FlashParams}
-use Rattle.settings.specs.declared.RangeCheck.TheVariants.{Fits, InvalidAddress}
 use Rattle.settings.specs.Limits.{defaults}
 use Rattle.settings.specs.Ranges.{check_address_length}
-use Rattle.erase_plan.specs.declared.SpanCheck.TheVariants.{Bad}
 use Rattle.erase_plan.specs.Span.{sectors_check}
 use Rattle.erase_plan.proofs.Examples.{planned, erase, sectors}
 use Rattle.commands.specs.declared.Answer.TheVariants.{Done}
@@ -33,8 +31,8 @@ pub record Chosen : Type 0 where
       ∷ (0x05 ∷ [], 1)
       ∷ []
   -- the refusal at 4,096: 61,440 bytes with types of 4,096, 32,768 and 65,536
-  pub refused_below : sectors_check sectors 4096 61440 ≡ Bad 4096
+  pub refused_below : sectors_check sectors 4096 61440 ≡ Err 4096
   -- the two 16,777,216 cases, and length 0 at 0: 3 address bytes, no capacity
-  pub all_of_24_bits : check_address_length defaults 0 16777216 ≡ Fits
-  pub past_24_bits : check_address_length defaults 0 16777217 ≡ InvalidAddress (record { last = 0x01000000 })
-  pub none_at_0 : check_address_length defaults 0 0 ≡ InvalidAddress (record { last = 0xFFFFFFFF })
+  pub all_of_24_bits : check_address_length defaults 0 16777216 ≡ Ok tt
+  pub past_24_bits : check_address_length defaults 0 16777217 ≡ Err (record { last = 0x01000000 })
+  pub none_at_0 : check_address_length defaults 0 0 ≡ Err (record { last = 0xFFFFFFFF })

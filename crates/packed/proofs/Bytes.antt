@@ -1,13 +1,21 @@
 -- Words and bytes: each is the other's way back.
 use Prim.Native.Nat.{ℕ, zero, suc, ◌+◌, ◌*◌, ◌^◌, ◌<◌, ◌≤◌}
 use native.Mathlib.Omega.{arith}
-use mathlib.Core.Path.{◌≡◌, refl, sym, ap, ◌∙◌}
+use mathlib.Core.Path.{◌≡◌, refl, sym, ap, ◌∙◌, subst}
 use mathlib.Core.Bool.{Bool, true, false, ◌&&◌}
-use mathlib.Core.List.{List, [], ◌∷◌, ◌++◌, append-nil}
-use lib.ListN.{length, get_or, set, take, drop, drop_of_length-le}
-use lib.Seq.{drop-cons, take-suc, set_at, append_snoc, get_or-drop, length-take-le, take_all}
+use mathlib.Core.List.{List, [], ◌∷◌, ◌++◌, append_assoc}
+use lib.ListN.{length, get_or, take, drop}
+use lib.Seq.{drop-drop, take-suc, take_at, drop_at, get_or-drop, length-take-le}
+use native.Mathlib.Numerals.{add-one}
+use borrow.Rule.Slice.PartMut.{put_mid}
+use Rattle.std.specs.Int.{w32, to_le_bytes}
+use Rattle.std.specs.Bool.{MatchBool}
+use mathlib.Core.Logic.{◌≢◌}
+use Rattle.std.specs.Array.{IsFromFnResultFrom}
+use Rattle.std.specs.Fn.{Called}
+use denote.Param.Members.{Mut}
 use lib.Dec.{eqb}
-use borrow.Author.Tests.{eqb-true, eq-eqb}
+use borrow.Author.Tests.{eqb-true, eqb-false, eq-eqb}
 use Rattle.packed.specs.Numbers.{word, byte0, byte1, byte2, byte3, bytes, word_at, words, same_list}
 
 -- ---- a word and its four bytes
@@ -40,30 +48,6 @@ bytes_below (x ∷ l) (suc zero) = omega arith
 bytes_below (x ∷ l) (suc (suc zero)) = omega arith
 bytes_below (x ∷ l) (suc (suc (suc zero))) = omega arith
 bytes_below (x ∷ l) (suc (suc (suc (suc i)))) = bytes_below l i
-
-pub bytes_at0 : (l : List ℕ) (i : ℕ) → get_or (bytes l) (4 * i) 0 ≡ byte0 (get_or l i 0)
-unfolding bytes
-bytes_at0 [] i = refl
-bytes_at0 (x ∷ l) zero = refl
-bytes_at0 (x ∷ l) (suc i) = let e : 4 * suc i ≡ suc (suc (suc (suc (4 * i)))) = omega arith in rw e (bytes_at0 l i)
-
-pub bytes_at1 : (l : List ℕ) (i : ℕ) → get_or (bytes l) (4 * i + 1) 0 ≡ byte1 (get_or l i 0)
-unfolding bytes
-bytes_at1 [] i = refl
-bytes_at1 (x ∷ l) zero = refl
-bytes_at1 (x ∷ l) (suc i) = let e : 4 * suc i + 1 ≡ suc (suc (suc (suc (4 * i + 1)))) = omega arith in rw e (bytes_at1 l i)
-
-pub bytes_at2 : (l : List ℕ) (i : ℕ) → get_or (bytes l) (4 * i + 2) 0 ≡ byte2 (get_or l i 0)
-unfolding bytes
-bytes_at2 [] i = refl
-bytes_at2 (x ∷ l) zero = refl
-bytes_at2 (x ∷ l) (suc i) = let e : 4 * suc i + 2 ≡ suc (suc (suc (suc (4 * i + 2)))) = omega arith in rw e (bytes_at2 l i)
-
-pub bytes_at3 : (l : List ℕ) (i : ℕ) → get_or (bytes l) (4 * i + 3) 0 ≡ byte3 (get_or l i 0)
-unfolding bytes
-bytes_at3 [] i = refl
-bytes_at3 (x ∷ l) zero = refl
-bytes_at3 (x ∷ l) (suc i) = let e : 4 * suc i + 3 ≡ suc (suc (suc (suc (4 * i + 3)))) = omega arith in rw e (bytes_at3 l i)
 
 -- ---- the words of bytes
 pub length_words : (n : ℕ) (b : List ℕ) → length (words n b) ≡ n
@@ -134,39 +118,44 @@ same_differs a b d = settled (same_list a b) refl
     settled true e = absurd (d (same_equal a b e))
     settled false e = refl
 
--- ---- a list that is filled from the front: after n stores
-pub fill_more : (d s : List ℕ) (n : ℕ) → n < length d → length s ≡ length d
-    → set (take n s ++ drop n d) n (get_or s n 0) ≡ take (suc n) s ++ drop (suc n) d
-fill_more d s n h e =
-    let l : n < length s = omega arith in
-    let k : length (take n s) ≡ n = length-take-le n s (omega arith) in
-    ap (λ (r : List ℕ). set (take n s ++ r) n (get_or s n 0)) (drop-cons d n 0 h)
-    ∙ set_at (take n s) (get_or d n 0) (drop (suc n) d) (get_or s n 0) n k
-    ∙ sym (append_snoc (take n s) (get_or s n 0) (drop (suc n) d))
-    ∙ ap (λ (r : List ℕ). r ++ drop (suc n) d) (sym (take-suc s n 0 l))
+-- a word's four bytes, as the library has them
+pub le_four : (x : ℕ) → to_le_bytes w32 x ≡ byte0 x ∷ byte1 x ∷ byte2 x ∷ byte3 x ∷ []
+le_four x = grind arith
 
--- after all
-pub fill_all : (d s : List ℕ) (n : ℕ) → length d ≡ n → length s ≡ n → take n s ++ drop n d ≡ s
-fill_all d s n e f =
-    ap (λ (r : List ℕ). r ++ drop n d) (take_all n s (omega arith))
-    ∙ ap (λ (r : List ℕ). s ++ r) (drop_past n d (omega arith))
-    ∙ append-nil s
+-- ---- a list that is filled from the front, a word at a time
+pub bytes_append : (a b : List ℕ) → bytes (a ++ b) ≡ bytes a ++ bytes b
+unfolding bytes
+bytes_append [] b = refl
+bytes_append (x ∷ a) b = ap (λ (l : List ℕ). byte0 x ∷ byte1 x ∷ byte2 x ∷ byte3 x ∷ l) (bytes_append a b)
+
+pub fill_word : (w d four : List ℕ) (i n : ℕ) → i < length w → length d ≡ 4 * length w → n ≡ 4 → four ≡ bytes (get_or w i 0 ∷ [])
+    → put_mid (4 * i) n (bytes (take i w) ++ drop (4 * i) d) four ≡ bytes (take (i + 1) w) ++ drop (4 * (i + 1)) d
+fill_word w d four i n h e f b =
+    let k : length (bytes (take i w)) ≡ 4 * i = omega (arith, length_bytes (take i w), length-take-le i w (omega arith)) in
+    let t : take (4 * i) (bytes (take i w) ++ drop (4 * i) d) ≡ bytes (take i w) = take_at (bytes (take i w)) (drop (4 * i) d) (4 * i) k in
+    let r : drop (4 * i) (bytes (take i w) ++ drop (4 * i) d) ≡ drop (4 * i) d = drop_at (bytes (take i w)) (drop (4 * i) d) (4 * i) k in
+    let s : take (i + 1) w ≡ take i w ++ (get_or w i 0 ∷ []) = rw add-one (take-suc w i 0 h) in
+    let m : 4 * (i + 1) ≡ 4 * i + 4 = omega arith in
+    rw (t, r, f, b, drop-drop 4 (4 * i) d, s, m, bytes_append (take i w) (get_or w i 0 ∷ []))
+    (sym (append_assoc (bytes (take i w)) (bytes (get_or w i 0 ∷ [])) (drop (4 * i + 4) d)))
+
+-- the words that the code reads are w exactly if the bytes are those of w
+pub words_same : (x b w : List ℕ) (r : Bool) → x ≡ words 64 b → length b ≡ 256 → length w ≡ 64 → ((i : ℕ) → get_or b i 0 < 256) → ((i : ℕ) → get_or w i 0 < 2 ^ 32)
+    → MatchBool r (x ≡ w) (x ≢ w) → r ≡ same_list b (bytes w)
+words_same x b w true e hb hw fb fw m =
+    let y : words 64 b ≡ w = sym e ∙ m in
+    sym (rw (← y, bytes_of_words 64 b hb fb) (same_self b))
+words_same x b w false e hb hw fb fw m =
+    sym (same_differs b (bytes w) (λ q. m (e ∙ ap (words 64) q ∙ ap (λ (n : ℕ). words n (bytes w)) (sym hw) ∙ words_of_bytes w fw)))
+
+-- ---- an array made by a function of the index that leaves itself as it was
+pub made_at : {F : Type 0} {g : Mut F (ℕ × Unit {0}) ℕ} {f : F} (h : ℕ → ℕ) → ((x y : ℕ) (q : F) → Called g f (x, tt) y q → (q ≡ f) × (y ≡ h x))
+    → (l : List ℕ) (i n : ℕ) (p : F) → p ≡ f → IsFromFnResultFrom g p l i n → (k : ℕ) → i ≤ k → k < i + n → get_or l k 0 ≡ h k
+made_at h step l i zero p s e k lo hi = absurd (omega arith)
+made_at {F} {g} {f} h step l i (suc n) p s e k lo hi =
+    let t = step i e.1 e.0 (subst (λ (r : F). Called g r (i, tt) e.1 e.0) s e.3) in
+    at (e.2.1 0 ∙ t.1) (λ (lo : i + 1 ≤ k) (hi : k < i + 1 + n). made_at h step l (i + 1) n e.0 t.0 e.4 k lo hi) (eqb k i) refl
   where
-    drop_past : (n : ℕ) (d : List ℕ) → length d ≤ n → drop n d ≡ []
-    drop_past n d h = drop_of_length-le d h
-
--- after four stores
-pub fill_four : (d s : List ℕ) (n : ℕ) → n + 3 < length d → length s ≡ length d
-    → set (set (set (set (take n s ++ drop n d) n (get_or s n 0)) (n + 1) (get_or s (n + 1) 0)) (n + 2) (get_or s (n + 2) 0)) (n + 3) (get_or s (n + 3) 0)
-    ≡ take (n + 4) s ++ drop (n + 4) d
-fill_four d s n h e =
-    let e1 : n + 1 ≡ suc n = omega arith in
-    let e2 : n + 2 ≡ suc (suc n) = omega arith in
-    let e3 : n + 3 ≡ suc (suc (suc n)) = omega arith in
-    let e4 : n + 4 ≡ suc (suc (suc (suc n))) = omega arith in
-    rw (e1, e2, e3, e4, fill_more d s n (omega arith) e, fill_more d s (suc n) (omega arith) e, fill_more d s (suc (suc n)) (omega arith) e)
-    (fill_more d s (suc (suc (suc n))) (omega arith) e)
-
--- a word of the bytes
-pub word_back : (l : List ℕ) (i : ℕ) → get_or l i 0 < 2 ^ 32 → word_at (bytes l) (4 * i) ≡ get_or l i 0
-word_back l i h = rw (bytes_at0 l i, bytes_at1 l i, bytes_at2 l i, bytes_at3 l i) (word_of_bytes (get_or l i 0) h)
+    at : get_or l i 0 ≡ h i → (i + 1 ≤ k → k < i + 1 + n → get_or l k 0 ≡ h k) → (b : Bool) → eqb k i ≡ b → get_or l k 0 ≡ h k
+    at here rest true q = let z : k ≡ i = eqb-true k i q in rw z here
+    at here rest false q = let d : k ≡ i → ⊥ = eqb-false k i q in rest (omega arith) (omega arith)

@@ -1,4 +1,3 @@
-pub mod Choosing
 pub mod Bytes
 pub mod Rows
 pub mod Places

@@ -4,6 +4,7 @@ use native.Mathlib.Omega.{arith}
 use native.Mathlib.Nat.{mod-eq_of_lt}
 use mathlib.Core.Path.{◌≡◌, refl, ap, ◌∙◌}
 use mathlib.Core.Bool.{Bool, true, false}
+use Rattle.sfdp.specs.Jesd216.{no_type}
 use Rattle.commands.specs.declared.Answer.{Answer}
 use Rattle.commands.specs.declared.Answer.TheVariants as Answers
 use Rattle.phases.specs.declared.Job.{Job}
@@ -26,9 +27,9 @@ use Rattle.phases.specs.declared.Phase.TheVariants.{Reading, Erasing, Writing, P
 use Rattle.packed.specs.declared.Reported.{Reported}
 use Rattle.packed.specs.declared.Slots.{Slots}
 use Rattle.packed.specs.declared.Place.{Place}
-use Rattle.packed.specs.Numbers.{byte0, low_half, bit_of, flag_of, low_of, high_of, wide_of}
+use Rattle.packed.specs.Numbers.{word, byte0, low_half, bit_of, flag_of, low_of, high_of, wide_of}
 use Rattle.packed.specs.Phases.{no_job, slots, read_slots, read_in, erase_slots, erase_in, write_slots, write_in, verify_slots, verify_in, reset_slots, reset_in, answer_numbers, answer_in, command_slots, command_in, poll_place, place_of, numbers_in, phase_in}
-use Rattle.packed.specs.Typed.{U8, U16, U32, U64, TypedJob, TypedRead, TypedErase, TypedWrite, TypedPoll, TypedVerify, TypedCommand, TypedAnswer, TypedPhase}
+use Rattle.packed.specs.Typed.{U8, U16, U32, U64, TypedInst, TypedJob, TypedRead, TypedErase, TypedWrite, TypedPoll, TypedVerify, TypedCommand, TypedAnswer, TypedPhase}
 
 -- ---- marks and numbers
 pub flag_bit : (b : Bool) → flag_of (bit_of b) ≡ b
@@ -43,6 +44,22 @@ byte_self n h = mod-eq_of_lt h
 
 pub half_self : (n : ℕ) → U16 n → low_half n ≡ n
 half_self n h = mod-eq_of_lt h
+
+pub word_fits : (a b c d : ℕ) → U8 a → U8 b → U8 c → U8 d → U32 (word a b c d)
+word_fits a b c d ha hb hc hd = omega arith
+
+-- ---- what is 0
+pub none8 : U8 0
+none8 = omega arith
+
+pub none32 : U32 0
+none32 = omega arith
+
+pub none64 : U64 0
+none64 = omega arith
+
+pub inst_none : TypedInst no_type
+inst_none = record { opcode = none8; size = none32; time_typ = none32; time_max = none64; time_raw = none8 }
 
 -- ---- commands and answers, there and back
 read_back : (c : ReadCommand) → TypedRead c → read_in (read_slots c) ≡ c

@@ -1,4 +1,5 @@
 -- Whatever bytes are read, the session has the widths of its types.
+use Rattle.std.proofs.Common.{Some, None, unwrap_or, cond}
 use Prim.Native.Nat.{ℕ, zero, suc, ◌+◌, ◌/◌, ◌%◌, ◌<◌}
 use native.Mathlib.Omega.{arith}
 use mathlib.Core.Path.{◌≡◌}
@@ -6,7 +7,7 @@ use mathlib.Core.Bool.{Bool, true, false, cond}
 use mathlib.Core.List.{List, [], ◌∷◌}
 use lib.ListN.{get_or, drop}
 use lib.Seq.{get_or-drop}
-use Rattle.sfdp.specs.Jesd216.{no_type, no_params, fields, density, erase_types, erase_type, timing, raw_times}
+use Rattle.sfdp.specs.Jesd216.{no_params, fields, density, erase_types, erase_type, timing, raw_times}
 use Rattle.sfdp.specs.declared.FlashParams.{FlashParams}
 use Rattle.erase_plan.specs.Good.{Each}
 use Rattle.commands.specs.declared.Answer.TheVariants as Answers
@@ -19,11 +20,11 @@ use Rattle.phases.specs.declared.Phase.TheVariants.{Ended}
 use Rattle.packed.specs.declared.Reported.{Reported}
 use Rattle.packed.specs.declared.Slots.{Slots}
 use Rattle.packed.specs.declared.Place.{Place}
-use Rattle.packed.specs.Numbers.{word, byte0, high_half, wide_of, words}
+use Rattle.packed.specs.Numbers.{byte0, high_half, wide_of, words}
 use Rattle.packed.specs.Phases.{read_in, erase_in, write_in, verify_in, answer_in, command_in, numbers_in, phase_in, read_cases, erase_cases, write_cases, verify_cases, command_cases, answer_cases, phase_cases}
 use Rattle.packed.specs.Layout.{settings_in, inst_in, insts_in, timing_in, raw_in, params_in, known_in, params_or_none, job_in, place_in, from_words, session_in}
 use Rattle.packed.specs.Typed.{U8, U16, U32, U64, TypedSettings, TypedInst, TypedInsts, TypedTiming, TypedRaw, TypedParams, TypedRead, TypedErase, TypedWrite, TypedVerify, TypedCommand, TypedAnswer, TypedPhase, Typed}
-use Rattle.packed.proofs.Places.{FitsSlots, FitsPlace}
+use Rattle.packed.proofs.Places.{word_fits, none8, none32, none64, inst_none, FitsSlots, FitsPlace}
 
 -- ---- numbers
 is_byte : (x : ℕ) → U8 (x % 256)
@@ -38,9 +39,6 @@ high_half_lem x h = omega arith
 is_wide : (l h : ℕ) → U32 l → U32 h → U64 (wide_of l h)
 is_wide l h hl hh = omega arith
 
-is_word : (a b c d : ℕ) → U8 a → U8 b → U8 c → U8 d → U32 (word a b c d)
-is_word a b c d ha hb hc hd = omega arith
-
 -- ---- what a list holds at a place, if all of it and the rest have it
 chosen : {A : Type 0} (P : A → Type 0) (l : List A) (d : A) → Each P l → P d → (n : ℕ) → P (get_or l n d)
 chosen P [] d t h n = h
@@ -51,7 +49,7 @@ chosen P (x ∷ l) d t h (suc n) = chosen P l d t.1 h n
 words_typed : (n : ℕ) (b : List ℕ) → ((i : ℕ) → get_or b i 0 < 256) → (i : ℕ) → U32 (get_or (words n b) i 0)
 unfolding words
 words_typed zero b f i = omega arith
-words_typed (suc n) b f zero = is_word (get_or b 0 0) (get_or b 1 0) (get_or b 2 0) (get_or b 3 0) (f 0) (f 1) (f 2) (f 3)
+words_typed (suc n) b f zero = word_fits (get_or b 0 0) (get_or b 1 0) (get_or b 2 0) (get_or b 3 0) (f 0) (f 1) (f 2) (f 3)
 words_typed (suc n) b f (suc i) = words_typed n (drop 4 b) (λ k. rw (get_or-drop 4 b k 0) (f (4 + k))) i
 
 -- ---- commands and answers
@@ -110,13 +108,17 @@ phase_typed p h =
     (command_typed s h.slots, answer_typed (numbers_in p) h.slots.a h.slots.b h.slots.c)
     p.phase
 
+capacity_typed : (b : Bool) (n : ℕ) → U64 n → U64 (unwrap_or (cond b (Some n) None) 0)
+capacity_typed true n h = h
+capacity_typed false n h = omega arith
+
 -- ---- the parts
 module _ (w : List ℕ) (f : (i : ℕ) → U32 (get_or w i 0)) where
   settings_typed : TypedSettings (settings_in w)
   unfolding settings_in
   settings_typed = record {
     address_bytes = is_byte (get_or w 0 0 / 256 / 256);
-    capacity = is_wide (get_or w 1 0) (get_or w 2 0) (f 1) (f 2);
+    capacity = capacity_typed _ _ (is_wide (get_or w 1 0) (get_or w 2 0) (f 1) (f 2));
     page_size = f 3;
     erase_size = f 4;
     erase_opcode = is_byte (get_or w 5 0);
@@ -191,18 +193,6 @@ module _ (w : List ℕ) (f : (i : ℕ) → U32 (get_or w i 0)) where
   }
 
 -- ---- no parameters
-none8 : U8 0
-none8 = omega arith
-
-none32 : U32 0
-none32 = omega arith
-
-none64 : U64 0
-none64 = omega arith
-
-inst_none : TypedInst no_type
-inst_none = record { opcode = none8; size = none32; time_typ = none32; time_max = none64; time_raw = none8 }
-
 pub none_typed : TypedParams no_params
 unfolding fields density erase_types erase_type timing raw_times
 none_typed = record {

@@ -1,11 +1,12 @@
 -- A session whose bytes are read back is the session.
+use Rattle.std.proofs.Common.{Option, Some, None, is_some, unwrap_or, cond}
 use Prim.Native.Nat.{ℕ, zero, suc, ◌+◌, ◌*◌, ◌^◌, ◌<◌}
 use native.Mathlib.Omega.{arith}
 use mathlib.Core.Path.{◌≡◌, refl, sym, ap, ◌∙◌}
 use mathlib.Core.Bool.{Bool, true, false, cond}
-use mathlib.Core.List.{List, [], ◌∷◌}
+use mathlib.Core.List.{List, [], ◌∷◌, ◌++◌}
 use lib.ListN.{get_or, drop}
-use Rattle.sfdp.specs.Jesd216.{no_type, no_params}
+use Rattle.sfdp.specs.Jesd216.{no_params}
 use Rattle.erase_plan.specs.Good.{Each}
 use Rattle.sfdp.specs.declared.SFDPAddressBytes.{SFDPAddressBytes}
 use Rattle.sfdp.specs.declared.SFDPAddressBytes.TheVariants as Address
@@ -16,15 +17,14 @@ use Rattle.sfdp.specs.declared.SFDPTiming.{SFDPTiming}
 use Rattle.sfdp.specs.declared.FlashParams.{FlashParams}
 use Rattle.settings.specs.declared.Settings.{Settings}
 use Rattle.flash.specs.declared.Session.{Session}
-use Rattle.packed.specs.declared.Slots.{Slots}
 use Rattle.packed.specs.declared.Place.{Place}
 use Rattle.packed.specs.Numbers.{word, byte0, byte1, byte2, byte3, halves, low_half, high_half, bit_of, flag_of, flags_word, low_of, high_of, wide_of, words}
-use Rattle.packed.specs.Phases.{slots, place_of, phase_in}
-use Rattle.packed.specs.Layout.{address_code, address_in, volatility_code, volatility_in, settings_words, params_words, inst_words, timing_words, place_head, place_next, list_settings, list_params, list_inst, list_timing, list_slots, blank, shown, row_of, to_words, bytes_of, settings_in, inst_in, insts_in, timing_in, raw_in, params_in, known_in, params_or_none, job_in, place_in, from_words, session_in}
+use Rattle.packed.specs.Phases.{place_of, phase_in}
+use Rattle.packed.specs.Layout.{address_code, address_in, volatility_code, volatility_in, settings_words, params_words, inst_words, timing_words, place_head, place_next, place_words, blank, shown, row_of, to_words, bytes_of, settings_in, inst_in, insts_in, timing_in, raw_in, params_in, known_in, params_or_none, job_in, place_in, from_words, session_in}
 use Rattle.packed.specs.Typed.{U8, U16, U32, U64, TypedSettings, TypedInst, TypedInsts, TypedTiming, TypedRaw, TypedParams, Typed}
 use Rattle.packed.proofs.Bytes.{byte0_word, byte1_word, byte2_word, byte3_word, words_of_bytes}
 use Rattle.packed.proofs.Rows.{length_to_words}
-use Rattle.packed.proofs.Places.{flag_bit, wide_halves, low_fits, high_fits, bit_fits, phase_back, FitsSlots, FitsPlace, place_fits}
+use Rattle.packed.proofs.Places.{word_fits, none8, none32, none64, inst_none, flag_bit, wide_halves, low_fits, high_fits, bit_fits, phase_back, FitsPlace, place_fits}
 
 -- ---- marks in a word
 flag0 : (a : Bool) (b c d : ℕ) → flag_of (byte0 (word (bit_of a) b c d)) ≡ a
@@ -82,16 +82,20 @@ opcode_half l h hl = omega arith
 limit_half : (l h : ℕ) → U8 l → high_half (halves l h) ≡ h
 limit_half l h hl = omega arith
 
-known_back : (s : Settings) (known : Bool) (rest : List ℕ) → known_in (list_settings (settings_words s known) rest) ≡ known
-unfolding known_in settings_words
-known_back s known rest = flag1 1 known s.address_bytes (bit_of s.capacity_set) one_fits
+known_back : (s : Settings) (known : Bool) (rest : List ℕ) → known_in (settings_words s known ++ rest) ≡ known
+unfolding known_in
+known_back s known rest = flag1 1 known s.address_bytes (bit_of (is_some s.capacity)) one_fits
 
-settings_back : (s : Settings) (known : Bool) (rest : List ℕ) → TypedSettings s → settings_in (list_settings (settings_words s known) rest) ≡ s
-unfolding settings_in settings_words
+-- a capacity from its mark and its number
+capacity_back : (o : Option ℕ) {b : Bool} {n : ℕ} → b ≡ is_some o → n ≡ unwrap_or o 0 → cond b (Some n) None ≡ o
+capacity_back (Some x) e h = rw (e, h)
+capacity_back None e h = rw e
+
+settings_back : (s : Settings) (known : Bool) (rest : List ℕ) → TypedSettings s → settings_in (settings_words s known ++ rest) ≡ s
+unfolding settings_in
 settings_back s known rest t = λ i. record {
-  address_bytes = byte2_word 1 (bit_of known) s.address_bytes (bit_of s.capacity_set) one_fits (bit_fits known) t.address_bytes i;
-  capacity_set = flag3 1 (bit_of known) s.address_bytes s.capacity_set one_fits (bit_fits known) t.address_bytes i;
-  capacity = wide_halves s.capacity i;
+  address_bytes = byte2_word 1 (bit_of known) s.address_bytes (bit_of (is_some s.capacity)) one_fits (bit_fits known) t.address_bytes i;
+  capacity = capacity_back s.capacity (flag3 1 (bit_of known) s.address_bytes (is_some s.capacity) one_fits (bit_fits known) t.address_bytes) (wide_halves (unwrap_or s.capacity 0)) i;
   page_size = s.page_size;
   erase_size = s.erase_size;
   erase_opcode = opcode_half s.erase_opcode s.poll_limit t.erase_opcode i;
@@ -100,13 +104,13 @@ settings_back s known rest t = λ i. record {
 
 -- ---- the parameters
 inst_back : (w : List ℕ) (n : ℕ) (x : SFDPEraseInst) → TypedInst x
-    → get_or w n 0 ≡ (inst_words x).head
-    → get_or w (n + 1) 0 ≡ (inst_words x).size
-    → get_or w (n + 2) 0 ≡ (inst_words x).typical
-    → get_or w (n + 3) 0 ≡ (inst_words x).low
-    → get_or w (n + 4) 0 ≡ (inst_words x).high
+    → get_or w n 0 ≡ word x.opcode (bit_of x.timed) x.time_raw 0
+    → get_or w (n + 1) 0 ≡ x.size
+    → get_or w (n + 2) 0 ≡ x.time_typ
+    → get_or w (n + 3) 0 ≡ low_of x.time_max
+    → get_or w (n + 4) 0 ≡ high_of x.time_max
     → inst_in w n ≡ x
-unfolding inst_in inst_words
+unfolding inst_in
 inst_back w n x t h0 h1 h2 h3 h4 = λ i. record {
   opcode = (ap byte0 h0 ∙ byte0_word x.opcode (bit_of x.timed) x.time_raw 0 t.opcode) i;
   size = h1 i;
@@ -127,7 +131,7 @@ module _ (s : Session) (p : FlashParams) (at : Place) where
   }
 
   timing_back : timing_in (row_of s p at) ≡ p.timing
-  unfolding timing_in timing_words
+  unfolding timing_in
   timing_back = λ i. record {
     chip_erase_time_typ = p.timing.chip_erase_time_typ;
     chip_erase_time_max = wide_halves p.timing.chip_erase_time_max i;
@@ -140,7 +144,7 @@ module _ (s : Session) (p : FlashParams) (at : Place) where
   }
 
   raw_back : TypedRaw p.raw → raw_in (row_of s p at) ≡ p.raw
-  unfolding raw_in params_words
+  unfolding raw_in
   raw_back t =
       let em = p.raw.erase_multiplier in
       let pm = p.raw.prog_multiplier in
@@ -158,7 +162,7 @@ module _ (s : Session) (p : FlashParams) (at : Place) where
       }
 
   params_back : TypedParams p → params_in (row_of s p at) ≡ p
-  unfolding params_in params_words
+  unfolding params_in
   params_back t =
       let major = p.version_major in
       let minor = p.version_minor in
@@ -267,9 +271,6 @@ words_back s t = λ i. record {
 }
 
 -- ---- each word is below 2 ^ 32
-word_fits : (a b c d : ℕ) → U8 a → U8 b → U8 c → U8 d → U32 (word a b c d)
-word_fits a b c d ha hb hc hd = omega arith
-
 halves_fits : (l h : ℕ) → U16 l → U16 h → U32 (halves l h)
 halves_fits l h hl hh = omega arith
 
@@ -279,23 +280,13 @@ byte_half n h = omega arith
 marks_fit : (v f : ℕ) → U8 v → U8 f → U16 (v + 256 * f)
 marks_fit v f hv hf = omega arith
 
-none8 : U8 0
-none8 = omega arith
-
-none32 : U32 0
-none32 = omega arith
-
-none64 : U64 0
-none64 = omega arith
-
-settings_each : (s : Settings) (known : Bool) (rest : List ℕ) → TypedSettings s → Each U32 rest → Each U32 (list_settings (settings_words s known) rest)
-unfolding settings_words
+settings_each : (s : Settings) (known : Bool) (rest : List ℕ) → TypedSettings s → Each U32 rest → Each U32 (settings_words s known ++ rest)
 settings_each s known rest t r = (
-  word_fits 1 (bit_of known) s.address_bytes (bit_of s.capacity_set) one_fits (bit_fits known) t.address_bytes (bit_fits s.capacity_set),
+  word_fits 1 (bit_of known) s.address_bytes (bit_of (is_some s.capacity)) one_fits (bit_fits known) t.address_bytes (bit_fits (is_some s.capacity)),
   (
-    low_fits s.capacity,
+    low_fits (unwrap_or s.capacity 0),
     (
-      high_fits s.capacity t.capacity,
+      high_fits (unwrap_or s.capacity 0) t.capacity,
       (
         t.page_size,
         (t.erase_size, (halves_fits s.erase_opcode s.poll_limit (byte_half s.erase_opcode t.erase_opcode) t.poll_limit, r)),
@@ -304,8 +295,7 @@ settings_each s known rest t r = (
   ),
 )
 
-params_each : (p : FlashParams) (rest : List ℕ) → TypedParams p → Each U32 rest → Each U32 (list_params (params_words p) rest)
-unfolding params_words
+params_each : (p : FlashParams) (rest : List ℕ) → TypedParams p → Each U32 rest → Each U32 (params_words p ++ rest)
 params_each p rest t r =
     let flags_fit : (a b c d : Bool) → U32 (flags_word a b c d) = λ a b c d. word_fits (bit_of a) (bit_of b) (bit_of c) (bit_of d) (bit_fits a) (bit_fits b) (bit_fits c) (bit_fits d) in (
       word_fits p.version_major p.version_minor (address_code p.address_bytes) (volatility_code p.status_1_vol) t.version_major t.version_minor (address_fits p.address_bytes) (volatility_fits p.status_1_vol),
@@ -333,15 +323,13 @@ params_each p rest t r =
       ),
     )
 
-inst_each : (x : SFDPEraseInst) (rest : List ℕ) → TypedInst x → Each U32 rest → Each U32 (list_inst (inst_words x) rest)
-unfolding inst_words
+inst_each : (x : SFDPEraseInst) (rest : List ℕ) → TypedInst x → Each U32 rest → Each U32 (inst_words x ++ rest)
 inst_each x rest t r = (
   word_fits x.opcode (bit_of x.timed) x.time_raw 0 t.opcode (bit_fits x.timed) t.time_raw none8,
   (t.size, (t.time_typ, (low_fits x.time_max, (high_fits x.time_max t.time_max, r)))),
 )
 
-timing_each : (m : SFDPTiming) (rest : List ℕ) → TypedTiming m → Each U32 rest → Each U32 (list_timing (timing_words m) rest)
-unfolding timing_words
+timing_each : (m : SFDPTiming) (rest : List ℕ) → TypedTiming m → Each U32 rest → Each U32 (timing_words m ++ rest)
 timing_each m rest t r = (
   t.chip_erase_time_typ,
   (
@@ -383,21 +371,16 @@ unfolding place_next
 next_fits at h =
     halves_fits at.left (bit_of at.slots.job.verified + 256 * bit_of at.slots.flag) h.left (marks_fit (bit_of at.slots.job.verified) (bit_of at.slots.flag) (bit_fits at.slots.job.verified) (bit_fits at.slots.flag))
 
-slots_each : (c : Slots) (rest : List ℕ) → FitsSlots c → Each U32 rest → Each U32 (list_slots c rest)
-slots_each c rest h r = (h.job.from, (h.job.last, (h.job.base, (h.job.top, (h.a, (h.b, (h.c, r)))))))
+place_each : (p : Place) (rest : List ℕ) → FitsPlace p → Each U32 rest → Each U32 (place_words p ++ rest)
+place_each p rest h r =
+    let c = h.slots in
+    (head_fits p h, (next_fits p h, (c.job.from, (c.job.last, (c.job.base, (c.job.top, (c.a, (c.b, (c.c, r)))))))))
 
 spare_each : Each U32 (0 ∷ 0 ∷ 0 ∷ 0 ∷ 0 ∷ 0 ∷ [])
 spare_each = (none32, (none32, (none32, (none32, (none32, (none32, tt))))))
 
-polls_each : (n : ℕ) (at : Place) → U64 n → FitsPlace at
-    → Each U32 (low_of n ∷ high_of n ∷ place_head at ∷ place_next at ∷ list_slots at.slots (0 ∷ 0 ∷ 0 ∷ 0 ∷ 0 ∷ 0 ∷ []))
-polls_each n at tn h = (
-  low_fits n,
-  (
-    high_fits n tn,
-    (head_fits at h, (next_fits at h, slots_each at.slots (0 ∷ 0 ∷ 0 ∷ 0 ∷ 0 ∷ 0 ∷ []) h.slots spare_each)),
-  ),
-)
+polls_each : (n : ℕ) (rest : List ℕ) → U64 n → Each U32 rest → Each U32 (low_of n ∷ high_of n ∷ rest)
+polls_each n rest tn r = (low_fits n, (high_fits n tn, r))
 
 row_each : (s : Session) (p : FlashParams) (at : Place) → TypedSettings s.settings → TypedParams p → U64 s.polls → FitsPlace at → Each U32 (row_of s p at)
 row_each s p at ts tp tn h =
@@ -409,12 +392,10 @@ row_each s p at ts tp tn h =
     (inst_each p.erase_insts.inst3 (drop 30 w) tp.erase_insts.inst3
     (inst_each p.erase_insts.inst4 (drop 35 w) tp.erase_insts.inst4
     (timing_each p.timing (drop 47 w) tp.timing
-    (polls_each s.polls at tn h)))))))
+    (polls_each s.polls (drop 49 w) tn
+    (place_each at (drop 58 w) h spare_each))))))))
 
 -- the parameters that are written
-blank_inst : TypedInst no_type
-blank_inst = record { opcode = none8; size = none32; time_typ = none32; time_max = none64; time_raw = none8 }
-
 blank_typed : TypedParams blank
 blank_typed = record {
   version_major = none8;
@@ -422,7 +403,7 @@ blank_typed = record {
   density = none64;
   legacy_4kb_erase_inst = none8;
   legacy_volatile_write_en_inst = none8;
-  erase_insts = record { inst1 = blank_inst; inst2 = blank_inst; inst3 = blank_inst; inst4 = blank_inst };
+  erase_insts = record { inst1 = inst_none; inst2 = inst_none; inst3 = inst_none; inst4 = inst_none };
   timing = record {
     chip_erase_time_typ = none32;
     chip_erase_time_max = none64;

@@ -25,7 +25,7 @@
 --   58 .. 63 0
 --
 -- A yes is 1 and a no is 0. What a case does not use is 0; without parameters words 6 to 46 are 0.
-use Rattle.std.specs.Prelude.{ℕ, ◌+◌, ◌*◌, Bool, false, cond, List, [], ◌∷◌, length, get_or, eqb}
+use Rattle.std.specs.Prelude.{ℕ, ◌+◌, ◌*◌, Bool, false, cond, List, [], ◌∷◌, ◌++◌, length, get_or, eqb, Some, None, is_some, unwrap_or}
 use Rattle.sfdp.specs.Jesd216.{no_type, no_params}
 use Rattle.sfdp.specs.declared.SFDPAddressBytes.{SFDPAddressBytes}
 use Rattle.sfdp.specs.declared.SFDPAddressBytes.TheVariants as Address
@@ -39,11 +39,6 @@ use Rattle.sfdp.specs.declared.FlashParams.{FlashParams}
 use Rattle.settings.specs.declared.Settings.{Settings}
 use Rattle.phases.specs.declared.Job.{Job}
 use Rattle.flash.specs.declared.Session.{Session}
-use Rattle.packed.specs.declared.SettingsWords.{SettingsWords}
-use Rattle.packed.specs.declared.ParamsWords.{ParamsWords}
-use Rattle.packed.specs.declared.InstWords.{InstWords}
-use Rattle.packed.specs.declared.TimingWords.{TimingWords}
-use Rattle.packed.specs.declared.Slots.{Slots}
 use Rattle.packed.specs.declared.Place.{Place}
 use Rattle.packed.specs.Numbers.{word, byte0, byte1, byte2, byte3, halves, low_half, high_half, bit_of, flag_of, flags_word, low_of, high_of, wide_of, bytes, words}
 use Rattle.packed.specs.Phases.{slots, place, place_of, phase_in}
@@ -74,53 +69,47 @@ volatility_in n =
     Status1.Reserved
 
 -- ---- the parts as words
-unfoldable pub settings_words : Settings → Bool → SettingsWords
-settings_words s known = record {
-  head = word 1 (bit_of known) s.address_bytes (bit_of s.capacity_set);
-  low = low_of s.capacity;
-  high = high_of s.capacity;
-  page = s.page_size;
-  erase = s.erase_size;
-  tail = halves s.erase_opcode s.poll_limit;
-}
+abbrev pub settings_words : Settings → Bool → List ℕ
+settings_words s known =
+    word 1 (bit_of known) s.address_bytes (bit_of (is_some s.capacity))
+    ∷ low_of (unwrap_or s.capacity 0)
+    ∷ high_of (unwrap_or s.capacity 0)
+    ∷ s.page_size
+    ∷ s.erase_size
+    ∷ halves s.erase_opcode s.poll_limit
+    ∷ []
 
-unfoldable pub params_words : FlashParams → ParamsWords
-params_words p = record {
-  versions = word p.version_major p.version_minor (address_code p.address_bytes) (volatility_code p.status_1_vol);
-  low = low_of p.density;
-  high = high_of p.density;
-  legacy = word (bit_of p.legacy_4kb_erase_supported) p.legacy_4kb_erase_inst p.legacy_volatile_write_en_inst (bit_of p.legacy_block_protect_volatile);
-  polls = flags_word p.legacy_byte_write_granularity p.jesd216a p.busy_poll_flag p.busy_poll_status;
-  resets = flags_word p.reset_inst_f0 p.reset_inst_66_99 p.exit_4byte_e9 p.enter_4byte_b7;
-  page = p.page_size;
-  raw = word p.raw.erase_multiplier p.raw.prog_multiplier p.raw.chip_erase p.raw.first_byte_prog;
-  more = word p.raw.succ_byte_prog p.raw.page_prog 0 0;
-}
+abbrev pub params_words : FlashParams → List ℕ
+params_words p =
+    word p.version_major p.version_minor (address_code p.address_bytes) (volatility_code p.status_1_vol)
+    ∷ low_of p.density
+    ∷ high_of p.density
+    ∷ word (bit_of p.legacy_4kb_erase_supported) p.legacy_4kb_erase_inst p.legacy_volatile_write_en_inst (bit_of p.legacy_block_protect_volatile)
+    ∷ flags_word p.legacy_byte_write_granularity p.jesd216a p.busy_poll_flag p.busy_poll_status
+    ∷ flags_word p.reset_inst_f0 p.reset_inst_66_99 p.exit_4byte_e9 p.enter_4byte_b7
+    ∷ p.page_size
+    ∷ word p.raw.erase_multiplier p.raw.prog_multiplier p.raw.chip_erase p.raw.first_byte_prog
+    ∷ word p.raw.succ_byte_prog p.raw.page_prog 0 0
+    ∷ []
 
-unfoldable pub inst_words : SFDPEraseInst → InstWords
-inst_words i = record {
-  head = word i.opcode (bit_of i.timed) i.time_raw 0;
-  size = i.size;
-  typical = i.time_typ;
-  low = low_of i.time_max;
-  high = high_of i.time_max;
-}
+abbrev pub inst_words : SFDPEraseInst → List ℕ
+inst_words i = word i.opcode (bit_of i.timed) i.time_raw 0 ∷ i.size ∷ i.time_typ ∷ low_of i.time_max ∷ high_of i.time_max ∷ []
 
-unfoldable pub timing_words : SFDPTiming → TimingWords
-timing_words t = record {
-  chip = t.chip_erase_time_typ;
-  chiplow = low_of t.chip_erase_time_max;
-  chiphigh = high_of t.chip_erase_time_max;
-  first = t.first_byte_prog_time_typ;
-  firstlow = low_of t.first_byte_prog_time_max;
-  firsthigh = high_of t.first_byte_prog_time_max;
-  succ = t.succ_byte_prog_time_typ;
-  succlow = low_of t.succ_byte_prog_time_max;
-  succhigh = high_of t.succ_byte_prog_time_max;
-  page = t.page_prog_time_typ;
-  pagelow = low_of t.page_prog_time_max;
-  pagehigh = high_of t.page_prog_time_max;
-}
+abbrev pub timing_words : SFDPTiming → List ℕ
+timing_words t =
+    t.chip_erase_time_typ
+    ∷ low_of t.chip_erase_time_max
+    ∷ high_of t.chip_erase_time_max
+    ∷ t.first_byte_prog_time_typ
+    ∷ low_of t.first_byte_prog_time_max
+    ∷ high_of t.first_byte_prog_time_max
+    ∷ t.succ_byte_prog_time_typ
+    ∷ low_of t.succ_byte_prog_time_max
+    ∷ high_of t.succ_byte_prog_time_max
+    ∷ t.page_prog_time_typ
+    ∷ low_of t.page_prog_time_max
+    ∷ high_of t.page_prog_time_max
+    ∷ []
 
 unfoldable pub place_head : Place → ℕ
 place_head p = word p.phase p.slots.command p.answer (bit_of p.enabled)
@@ -128,36 +117,11 @@ place_head p = word p.phase p.slots.command p.answer (bit_of p.enabled)
 unfoldable pub place_next : Place → ℕ
 place_next p = halves p.left (bit_of p.slots.job.verified + 256 * bit_of p.slots.flag)
 
--- ---- the parts in a row, before the rest
-abbrev pub list_settings : SettingsWords → List ℕ → List ℕ
-list_settings w rest = w.head ∷ w.low ∷ w.high ∷ w.page ∷ w.erase ∷ w.tail ∷ rest
-
-abbrev pub list_params : ParamsWords → List ℕ → List ℕ
-list_params w rest =
-    w.versions ∷ w.low ∷ w.high ∷ w.legacy ∷ w.polls ∷ w.resets ∷ w.page ∷ w.raw ∷ w.more ∷ rest
-
-abbrev pub list_inst : InstWords → List ℕ → List ℕ
-list_inst w rest = w.head ∷ w.size ∷ w.typical ∷ w.low ∷ w.high ∷ rest
-
-abbrev pub list_timing : TimingWords → List ℕ → List ℕ
-list_timing w rest =
-    w.chip
-    ∷ w.chiplow
-    ∷ w.chiphigh
-    ∷ w.first
-    ∷ w.firstlow
-    ∷ w.firsthigh
-    ∷ w.succ
-    ∷ w.succlow
-    ∷ w.succhigh
-    ∷ w.page
-    ∷ w.pagelow
-    ∷ w.pagehigh
-    ∷ rest
-
-abbrev pub list_slots : Slots → List ℕ → List ℕ
-list_slots c rest =
-    c.job.from ∷ c.job.last ∷ c.job.base ∷ c.job.top ∷ c.a ∷ c.b ∷ c.c ∷ rest
+-- with the job's numbers and the command's or the answer's
+abbrev pub place_words : Place → List ℕ
+place_words p =
+    let c = p.slots in
+    place_head p ∷ place_next p ∷ c.job.from ∷ c.job.last ∷ c.job.base ∷ c.job.top ∷ c.a ∷ c.b ∷ c.c ∷ []
 
 -- the parameters whose words are all 0
 abbrev pub blank : FlashParams
@@ -206,33 +170,19 @@ unfoldable pub shown : Session → FlashParams
 shown s = cond s.known s.params blank
 
 -- ---- the 64 words, and the 256 bytes
-abbrev pub row : SettingsWords → ParamsWords → (i1 i2 i3 i4 : InstWords) → TimingWords → (low high head next : ℕ) → Slots → List ℕ
-row s p i1 i2 i3 i4 t low high head next c =
-    list_settings s
-    (list_params p
-    (list_inst i1
-    (list_inst i2
-    (list_inst i3
-    (list_inst i4
-    (list_timing t
-    (low ∷ high ∷ head ∷ next ∷ list_slots c (0 ∷ 0 ∷ 0 ∷ 0 ∷ 0 ∷ 0 ∷ []))))))))
-
 -- with these parameters and in this place
 abbrev pub row_of : Session → FlashParams → Place → List ℕ
 row_of s p at =
-    row
-    (settings_words s.settings s.known)
-    (params_words p)
-    (inst_words p.erase_insts.inst1)
-    (inst_words p.erase_insts.inst2)
-    (inst_words p.erase_insts.inst3)
-    (inst_words p.erase_insts.inst4)
-    (timing_words p.timing)
-    (low_of s.polls)
-    (high_of s.polls)
-    (place_head at)
-    (place_next at)
-    at.slots
+    settings_words s.settings s.known
+    ++ (params_words p
+    ++ (inst_words p.erase_insts.inst1
+    ++ (inst_words p.erase_insts.inst2
+    ++ (inst_words p.erase_insts.inst3
+    ++ (inst_words p.erase_insts.inst4
+    ++ (timing_words p.timing
+    ++ (low_of s.polls ∷ high_of s.polls ∷ []
+    ++ (place_words at
+    ++ (0 ∷ 0 ∷ 0 ∷ 0 ∷ 0 ∷ 0 ∷ [])))))))))
 
 unfoldable pub to_words : Session → List ℕ
 to_words s = row_of s (shown s) (place_of s.phase)
@@ -244,8 +194,7 @@ bytes_of s = bytes (to_words s)
 unfoldable pub settings_in : List ℕ → Settings
 settings_in w = record {
   address_bytes = byte2 (get_or w 0 0);
-  capacity_set = flag_of (byte3 (get_or w 0 0));
-  capacity = wide_of (get_or w 1 0) (get_or w 2 0);
+  capacity = cond (flag_of (byte3 (get_or w 0 0))) (Some (wide_of (get_or w 1 0) (get_or w 2 0))) None;
   page_size = get_or w 3 0;
   erase_size = get_or w 4 0;
   erase_opcode = byte0 (get_or w 5 0);

@@ -1,7 +1,5 @@
 -- Words of 32 bits from bytes, yes-or-no marks and longer numbers, and back. Words as bytes, the lowest first.
 use Rattle.std.specs.Prelude.{ℕ, zero, suc, ◌+◌, ◌*◌, ◌/◌, ◌%◌, Bool, true, false, ◌&&◌, List, [], ◌∷◌, get_or, drop, eqb}
-use Rattle.packed.specs.declared.Four.{Four}
-use Rattle.packed.specs.declared.Flags.{Flags}
 
 -- ---- a word of four bytes, and its bytes
 abbrev pub word : ℕ → ℕ → ℕ → ℕ → ℕ
@@ -18,9 +16,6 @@ byte2 x = x / 256 / 256 % 256
 
 abbrev pub byte3 : ℕ → ℕ
 byte3 x = x / 256 / 256 / 256 % 256
-
-abbrev pub four_of : ℕ → Four
-four_of x = record { a = byte0 x; b = byte1 x; c = byte2 x; d = byte3 x }
 
 -- ---- two halves of 16 bits
 abbrev pub halves : ℕ → ℕ → ℕ
@@ -43,8 +38,8 @@ flag_of x = eqb x 1
 abbrev pub flags_word : Bool → Bool → Bool → Bool → ℕ
 flags_word a b c d = word (bit_of a) (bit_of b) (bit_of c) (bit_of d)
 
-abbrev pub flags_of : ℕ → Flags
-flags_of x = record { a = flag_of (byte0 x); b = flag_of (byte1 x); c = flag_of (byte2 x); d = flag_of (byte3 x) }
+abbrev pub flags_of : ℕ → List Bool
+flags_of x = flag_of (byte0 x) ∷ flag_of (byte1 x) ∷ flag_of (byte2 x) ∷ flag_of (byte3 x) ∷ []
 
 -- ---- a number of 64 bits as two words
 abbrev pub low_of : ℕ → ℕ

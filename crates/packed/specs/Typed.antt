@@ -1,6 +1,6 @@
 -- The widths of a session: each number is below the width of its type in the code. A session without parameters holds the ones
 -- that stand for none.
-use Rattle.std.specs.Prelude.{ℕ, ◌<◌, ◌^◌, ◌≡◌, false}
+use Rattle.std.specs.Prelude.{ℕ, ◌<◌, ◌^◌, ◌≡◌, false, unwrap_or}
 use Rattle.sfdp.specs.Jesd216.{no_params}
 use Rattle.sfdp.specs.declared.SFDPEraseInst.{SFDPEraseInst}
 use Rattle.sfdp.specs.declared.SFDPEraseInsts.{SFDPEraseInsts}
@@ -44,7 +44,7 @@ U64 n = n < 2 ^ 64
 -- ---- the settings
 pub record TypedSettings (s : Settings) : Type 0 where
   pub address_bytes : U8 s.address_bytes
-  pub capacity : U64 s.capacity
+  pub capacity : U64 (unwrap_or s.capacity 0)
   pub page_size : U32 s.page_size
   pub erase_size : U32 s.erase_size
   pub erase_opcode : U8 s.erase_opcode

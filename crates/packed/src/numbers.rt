@@ -1,44 +1,13 @@
-// Words from bytes, yes-or-no marks and longer numbers, and back.
-ghost use Rattle.std.specs.Prelude.{◌≡◌, ◌≤◌, get_or};
-ghost use Rattle.packed.specs.Numbers.{byte0, byte1, byte2, byte3, four_of, halves, low_half, high_half, bit_of, flag_of, flags_word, flags_of, low_of, high_of, wide_of, word_at};
+// Words from bytes, yes-or-no marks and longer numbers, and back. A part of a number is its rest or quotient: a bare `as` is refused
+// where it may lose bits, and through to_le_bytes all the bytes would be named to keep some of them.
+ghost use Rattle.std.specs.Prelude.{◌≡◌, ◌≤◌};
+ghost use Rattle.packed.specs.Numbers.{byte0, halves, low_half, high_half, flags_word, flags_of, low_of, high_of, wide_of, word_at};
 
-use crate::{Flags, Four};
-use dwords::number;
-
-pub fn byte_0(x: u32) -> u8
+// The lowest byte of a word.
+pub fn low_byte(x: u32) -> u8
     ensures { result ≡ byte0 x }
 {
     (x % 256) as u8
-}
-
-pub fn byte_1(x: u32) -> u8
-    ensures { result ≡ byte1 x }
-{
-    (x / 256 % 256) as u8
-}
-
-pub fn byte_2(x: u32) -> u8
-    ensures { result ≡ byte2 x }
-{
-    (x / 256 / 256 % 256) as u8
-}
-
-pub fn byte_3(x: u32) -> u8
-    ensures { result ≡ byte3 x }
-{
-    (x / 256 / 256 / 256 % 256) as u8
-}
-
-// The four bytes of a word.
-pub fn four_of(x: u32) -> Four
-    ensures { result ≡ four_of x }
-{
-    Four {
-        a: byte_0(x),
-        b: byte_1(x),
-        c: byte_2(x),
-        d: byte_3(x),
-    }
 }
 
 // Two halves of a word.
@@ -60,34 +29,18 @@ pub fn high_half(x: u32) -> u16
     (x / 65536) as u16
 }
 
-pub fn bit(b: bool) -> u8
-    ensures { result ≡ bit_of b }
-{
-    if b { 1 } else { 0 }
-}
-
-pub fn flag(x: u8) -> bool
-    ensures { result ≡ flag_of x }
-{
-    x == 1
-}
-
 // A word of four marks.
 pub fn flags_word(a: bool, b: bool, c: bool, d: bool) -> u32
     ensures { result ≡ flags_word a b c d }
 {
-    number(bit(a), bit(b), bit(c), bit(d))
+    u32::from_le_bytes([u8::from(a), u8::from(b), u8::from(c), u8::from(d)])
 }
 
-pub fn flags_of(x: u32) -> Flags
+pub fn flags_of(x: u32) -> [bool; 4]
     ensures { result ≡ flags_of x }
 {
-    Flags {
-        a: flag(byte_0(x)),
-        b: flag(byte_1(x)),
-        c: flag(byte_2(x)),
-        d: flag(byte_3(x)),
-    }
+    let [a, b, c, d] = x.to_le_bytes();
+    [a == 1, b == 1, c == 1, d == 1]
 }
 
 // A number of 64 bits as two words.
@@ -109,26 +62,10 @@ pub fn wide(l: u32, h: u32) -> u64
     l as u64 + 0x1_0000_0000 * (h as u64)
 }
 
-// A byte of a lent slice, 0 where there is none.
-fn byte_or_0(b: &[u8], i: usize) -> u8
-    ensures { result ≡ get_or b.now i 0 }
-{
-    if i < b.len() { b[i] } else { 0 }
-}
-
-// The word of the four bytes from a place on.
+// The word of the four bytes from a place on; a byte that is not there reads as 0.
 pub fn word_at(b: &[u8], i: usize) -> u32
     requires { i ≤ 252 }
     ensures { result ≡ word_at b.now i }
 {
-    if i + 4 <= b.len() {
-        number(b[i], b[i + 1], b[i + 2], b[i + 3])
-    } else {
-        number(
-            byte_or_0(b, i),
-            byte_or_0(b, i + 1),
-            byte_or_0(b, i + 2),
-            byte_or_0(b, i + 3),
-        )
-    }
+    u32::from_le_bytes(std::array::from_fn(|k| b.get(i + k).copied().unwrap_or(0)))
 }

@@ -1,7 +1,7 @@
-// A phase as numbers, and back.
+// A phase as numbers, and back. The numbers are those of the bytes that hosts keep, so they stay whatever numbers the enums themselves have.
 ghost use Rattle.std.specs.Prelude.{◌≡◌, false};
 ghost use Rattle.packed.specs.Phases.{no_job, slots, bare, with_job, read_slots, read_in, erase_slots, erase_in, write_slots, write_in, verify_slots, verify_in, reset_slots, reset_in, reported, answer_numbers, answer_in, command_slots, command_in, place, poll_place, place_of, numbers_in, phase_in};
-ghost use Rattle.packed.specs.Layout.{place_head, place_next, job_in, place_in};
+ghost use Rattle.packed.specs.Layout.{place_head, place_next, place_words, job_in, place_in};
 
 use crate::{Place, Reported, Slots, numbers};
 use commands::Answer;
@@ -31,11 +31,11 @@ fn marked(n: u8, flag: bool, job: Job, a: u32, b: u32, c: u32) -> Slots
 {
     Slots {
         command: n,
-        flag: flag,
-        job: job,
-        a: a,
-        b: b,
-        c: c,
+        flag,
+        job,
+        a,
+        b,
+        c,
     }
 }
 
@@ -53,6 +53,7 @@ fn with_job(n: u8, job: Job, a: u32, b: u32, c: u32) -> Slots
     marked(n, false, job, a, b, c)
 }
 
+#[tactic(auto, unfolding(crate::specs::Phases::read_slots))]
 fn read_slots(c: ReadCommand) -> Slots
     ensures { result ≡ read_slots c }
 {
@@ -71,16 +72,16 @@ fn read_slots(c: ReadCommand) -> Slots
     }
 }
 
+#[tactic(auto, unfolding(crate::specs::Phases::read_in))]
 fn read_in(s: Slots) -> ReadCommand
     ensures { result ≡ read_in s }
 {
-    let n = s.command;
     let job = s.job;
-    match n {
+    match s.command {
         0 => ReadCommand::Read(s.flag, s.a, numbers::wide(s.b, s.c)),
         1 => ReadCommand::Header,
-        2 => ReadCommand::Headers(numbers::byte_0(s.a)),
-        3 => ReadCommand::Table(numbers::byte_0(s.a), numbers::byte_0(s.b), s.c),
+        2 => ReadCommand::Headers(numbers::low_byte(s.a)),
+        3 => ReadCommand::Table(numbers::low_byte(s.a), numbers::low_byte(s.b), s.c),
         4 => ReadCommand::Before(job),
         5 => ReadCommand::After(job),
         6 => ReadCommand::Id,
@@ -89,6 +90,7 @@ fn read_in(s: Slots) -> ReadCommand
     }
 }
 
+#[tactic(auto, unfolding(crate::specs::Phases::erase_slots))]
 fn erase_slots(c: EraseCommand) -> Slots
     ensures { result ≡ erase_slots c }
 {
@@ -99,18 +101,19 @@ fn erase_slots(c: EraseCommand) -> Slots
     }
 }
 
+#[tactic(auto, unfolding(crate::specs::Phases::erase_in))]
 fn erase_in(s: Slots) -> EraseCommand
     ensures { result ≡ erase_in s }
 {
-    let n = s.command;
     let job = s.job;
-    match n {
+    match s.command {
         0 => EraseCommand::Chip,
         1 => EraseCommand::Sectors(s.a, s.b),
         _ => EraseCommand::Program(job, s.a),
     }
 }
 
+#[tactic(auto, unfolding(crate::specs::Phases::write_slots))]
 fn write_slots(c: WriteCommand) -> Slots
     ensures { result ≡ write_slots c }
 {
@@ -120,17 +123,18 @@ fn write_slots(c: WriteCommand) -> Slots
     }
 }
 
+#[tactic(auto, unfolding(crate::specs::Phases::write_in))]
 fn write_in(s: Slots) -> WriteCommand
     ensures { result ≡ write_in s }
 {
-    let n = s.command;
     let job = s.job;
-    match n {
+    match s.command {
         0 => WriteCommand::Program(job, s.a, s.b),
         _ => WriteCommand::Data(s.a, s.b, s.c),
     }
 }
 
+#[tactic(auto, unfolding(crate::specs::Phases::verify_slots))]
 fn verify_slots(c: VerifyCommand) -> Slots
     ensures { result ≡ verify_slots c }
 {
@@ -142,24 +146,25 @@ fn verify_slots(c: VerifyCommand) -> Slots
     }
 }
 
+#[tactic(auto, unfolding(crate::specs::Phases::verify_in))]
 fn verify_in(s: Slots) -> VerifyCommand
     ensures { result ≡ verify_in s }
 {
-    let n = s.command;
     let job = s.job;
-    match n {
+    match s.command {
         0 => VerifyCommand::Compare(job, s.a),
         _ => {
             let m = Mismatch {
                 address: s.a,
-                wrote: numbers::byte_0(s.b),
-                read: numbers::byte_0(s.c),
+                wrote: numbers::low_byte(s.b),
+                read: numbers::low_byte(s.c),
             };
             VerifyCommand::Tell(job, m)
         }
     }
 }
 
+#[tactic(auto, unfolding(crate::specs::Phases::reset_slots))]
 fn reset_slots(c: ResetCommand) -> Slots
     ensures { result ≡ reset_slots c }
 {
@@ -170,11 +175,11 @@ fn reset_slots(c: ResetCommand) -> Slots
     }
 }
 
+#[tactic(auto, unfolding(crate::specs::Phases::reset_in))]
 fn reset_in(s: Slots) -> ResetCommand
     ensures { result ≡ reset_in s }
 {
-    let n = s.command;
-    match n {
+    match s.command {
         0 => ResetCommand::Enable,
         1 => ResetCommand::Reset,
         _ => ResetCommand::F0,
@@ -186,20 +191,16 @@ fn reset_in(s: Slots) -> ResetCommand
 fn numbered(n: u8, a: u32, b: u32, c: u32) -> Reported
     ensures { result ≡ reported n a b c }
 {
-    Reported {
-        answer: n,
-        a: a,
-        b: b,
-        c: c,
-    }
+    Reported { answer: n, a, b, c }
 }
 
+#[tactic(auto, unfolding(crate::specs::Phases::answer_numbers))]
 fn answer_numbers(a: Answer) -> Reported
     ensures { result ≡ answer_numbers a }
 {
     match a {
         Answer::Done => numbered(0, 0, 0, 0),
-        Answer::DoneBool(b) => numbered(1, numbers::bit(b) as u32, 0, 0),
+        Answer::DoneBool(b) => numbered(1, u8::from(b) as u32, 0, 0),
         Answer::DoneId(bank, manufacturer, device) => {
             numbered(2, bank as u32, manufacturer as u32, device as u32)
         }
@@ -219,19 +220,19 @@ fn answer_numbers(a: Answer) -> Reported
     }
 }
 
+#[tactic(auto, unfolding(crate::specs::Phases::answer_in))]
 fn answer_in(n: Reported) -> Answer
     ensures { result ≡ answer_in n }
 {
-    let k = n.answer;
-    match k {
+    match n.answer {
         0 => Answer::Done,
         1 => Answer::DoneBool(n.a == 1),
         2 => Answer::DoneId(
-            numbers::byte_0(n.a),
-            numbers::byte_0(n.b),
+            numbers::low_byte(n.a),
+            numbers::low_byte(n.b),
             numbers::low_half(n.c),
         ),
-        3 => Answer::ReadbackError(n.a, numbers::byte_0(n.b), numbers::byte_0(n.c)),
+        3 => Answer::ReadbackError(n.a, numbers::low_byte(n.b), numbers::low_byte(n.c)),
         4 => Answer::InvalidManufacturer,
         5 => Answer::InvalidSFDPHeader,
         6 => Answer::InvalidSFDPParams,
@@ -248,6 +249,7 @@ fn answer_in(n: Reported) -> Answer
 }
 
 // A command that ended, with its answer's numbers.
+#[tactic(auto, unfolding(crate::specs::Phases::command_slots))]
 fn command_slots(c: Command, n: Reported) -> Slots
     ensures { result ≡ command_slots c n }
 {
@@ -257,12 +259,12 @@ fn command_slots(c: Command, n: Reported) -> Slots
     }
 }
 
+#[tactic(auto, unfolding(crate::specs::Phases::command_in))]
 fn command_in(s: Slots) -> Command
     ensures { result ≡ command_in s }
 {
-    let n = s.command;
     let job = s.job;
-    match n {
+    match s.command {
         0 => Command::Other,
         _ => Command::Program(job, s.flag),
     }
@@ -275,13 +277,14 @@ fn placed(n: u8, answer: u8, enabled: bool, left: u16, s: Slots) -> Place
 {
     Place {
         phase: n,
-        answer: answer,
-        enabled: enabled,
-        left: left,
+        answer,
+        enabled,
+        left,
         slots: s,
     }
 }
 
+#[tactic(auto, unfolding(crate::specs::Phases::poll_place))]
 fn poll_place(c: PollCommand, left: u16) -> Place
     ensures { result ≡ poll_place c left }
 {
@@ -292,6 +295,7 @@ fn poll_place(c: PollCommand, left: u16) -> Place
     }
 }
 
+#[tactic(auto, unfolding(crate::specs::Phases::place_of))]
 pub fn place_of(p: Phase) -> Place
     ensures { result ≡ place_of p }
 {
@@ -309,50 +313,65 @@ pub fn place_of(p: Phase) -> Place
     }
 }
 
-pub fn place_head(p: Place) -> u32
+#[tactic(auto, unfolding(crate::specs::Layout::place_head))]
+fn place_head(p: Place) -> u32
     ensures { result ≡ place_head p }
 {
-    let s = p.slots;
-    number(p.phase, s.command, p.answer, numbers::bit(p.enabled))
+    number(p.phase, p.slots.command, p.answer, u8::from(p.enabled))
 }
 
-pub fn place_next(p: Place) -> u32
+#[tactic(auto, unfolding(crate::specs::Layout::place_next))]
+fn place_next(p: Place) -> u32
     ensures { result ≡ place_next p }
 {
-    let s = p.slots;
-    let job = s.job;
-    let marks = numbers::bit(job.verified) as u16 + 256 * (numbers::bit(s.flag) as u16);
-    numbers::halves_word(p.left, marks)
+    let verified = u8::from(p.slots.job.verified);
+    let flag = u8::from(p.slots.flag);
+    numbers::halves_word(p.left, u16::from_le_bytes([verified, flag]))
+}
+
+// A phase's numbers, its job's and its command's as words.
+pub fn place_words(p: Place) -> [u32; 9]
+    ensures { result ≡ place_words p }
+{
+    let c = p.slots;
+    let j = c.job;
+    [
+        place_head(p),
+        place_next(p),
+        j.from,
+        j.last,
+        j.base,
+        j.top,
+        c.a,
+        c.b,
+        c.c,
+    ]
 }
 
 // ---- and back
 
+#[tactic(auto, unfolding(crate::specs::Layout::job_in))]
 fn job_in(w: &[u32; 64]) -> Job
     ensures { result ≡ job_in w.now }
 {
+    let [_, _, verified, _] = w[50].to_le_bytes();
     Job {
         from: w[51],
         last: w[52],
         base: w[53],
         top: w[54],
-        verified: numbers::flag(numbers::byte_2(w[50])),
+        verified: verified == 1,
     }
 }
 
+#[tactic(auto, unfolding(crate::specs::Layout::place_in))]
 pub fn place_in(w: &[u32; 64]) -> Place
     ensures { result ≡ place_in w.now }
 {
-    let head = numbers::four_of(w[49]);
-    let flag = numbers::flag(numbers::byte_3(w[50]));
-    let job = job_in(w);
-    let s = marked(head.b, flag, job, w[55], w[56], w[57]);
-    placed(
-        head.a,
-        head.c,
-        numbers::flag(head.d),
-        numbers::low_half(w[50]),
-        s,
-    )
+    let [phase, command, answer, enabled] = w[49].to_le_bytes();
+    let [_, _, _, flag] = w[50].to_le_bytes();
+    let slots = marked(command, flag == 1, job_in(w), w[55], w[56], w[57]);
+    placed(phase, answer, enabled == 1, numbers::low_half(w[50]), slots)
 }
 
 // The answer's numbers stand in its command's slots.
@@ -366,18 +385,15 @@ fn numbers_in(p: Place) -> Reported
 fn polling(c: PollCommand, left: u16) -> Phase
     ensures { result ≡ Phase.Polling c left }
 {
-    Phase::Polling {
-        command: c,
-        left: left,
-    }
+    Phase::Polling { command: c, left }
 }
 
+#[tactic(auto, unfolding(crate::specs::Phases::phase_in))]
 pub fn phase_in(p: Place) -> Phase
     ensures { result ≡ phase_in p }
 {
-    let n = p.phase;
     let s = p.slots;
-    match n {
+    match p.phase {
         0 => Phase::Reading {
             command: read_in(s),
         },

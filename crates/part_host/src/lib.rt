@@ -6,15 +6,39 @@ mod wire;
 
 use flash::{Session, Stepped};
 use nor_part::{Part, State};
+use source::Source;
 
-// kind: the commands in the order of crates/commands/specs/Calls. room: how many bytes are lent.
+// Where a command begins, and how many bytes it takes.
 #[derive(Clone, Copy)]
-pub struct Call {
-    pub kind: u8,
+pub struct Range {
     pub address: u32,
     pub length: u64,
-    pub verify: bool,
-    pub room: u64,
+}
+
+// The commands in the order of crates/commands/specs/Calls.
+#[derive(Clone, Copy)]
+pub enum Command {
+    Read(Range),
+    LegacyRead(Range),
+    ReadParams,
+    Erase,
+    EraseSectors(Range),
+    Program { range: Range, verify: bool },
+    ProgramData(Range),
+    Reset,
+    ReadJedecId,
+    IsBusy,
+    IsProtected,
+}
+
+// What 9F returns.
+pub static ID: [u8; 5] = [0x7F, 0x7F, 0x20, 0xBA, 0x18];
+
+// A part on the wire. slow: it stays busy beyond the poll limit; else up to it.
+#[derive(Clone, Copy)]
+pub struct Wired<'a> {
+    pub part: Part<'a>,
+    pub slow: bool,
 }
 
 // The driver with what it asks for next, the part's state, the random source, and how many transactions there were.
@@ -22,58 +46,48 @@ pub struct Call {
 pub struct Play {
     pub stepped: Stepped,
     pub state: State,
-    pub source: u64,
+    pub source: Source,
     pub count: u64,
 }
 
-// ---- a command
-
-fn start_data(c: Call, a: Session, data: &[u8], work: &mut [u8]) -> Stepped {
-    let part = room::payload(data, 0, c.length);
-    if c.kind == 5 {
-        a.program(c.address, part, c.verify, work)
-    } else {
-        a.program_data(c.address, part, work)
-    }
-}
-
-fn start(c: Call, a: Session, data: &[u8], work: &mut [u8]) -> Stepped {
+fn start(command: Command, session: Session, data: &[u8], work: &mut [u8]) -> Stepped {
     let len = work.len() as u64;
-    let kind = c.kind;
-    match kind {
-        0 => a.read(c.address, c.length, len),
-        1 => a.legacy_read(c.address, c.length, len),
-        2 => a.read_params(len),
-        3 => a.erase(),
-        4 => a.erase_sectors(c.address, c.length),
-        5 => start_data(c, a, data, work),
-        6 => start_data(c, a, data, work),
-        7 => a.reset(),
-        8 => a.read_jedec_id(),
-        9 => a.is_busy(),
-        _ => a.is_protected(),
+    match command {
+        Command::Read(r) => session.read(r.address, r.length, len),
+        Command::LegacyRead(r) => session.legacy_read(r.address, r.length, len),
+        Command::ReadParams => session.read_params(len),
+        Command::Erase => session.erase(),
+        Command::EraseSectors(r) => session.erase_sectors(r.address, r.length),
+        Command::Program { range: r, verify } => {
+            session.program(r.address, room::payload(data, 0, r.length), verify, work)
+        }
+        Command::ProgramData(r) => {
+            session.program_data(r.address, room::payload(data, 0, r.length), work)
+        }
+        Command::Reset => session.reset(),
+        Command::ReadJedecId => session.read_jedec_id(),
+        Command::IsBusy => session.is_busy(),
+        Command::IsProtected => session.is_protected(),
     }
 }
 
-// A command from its start to its answer. slow: the part stays busy beyond the poll limit; else up to it.
+// A command from its start to its answer.
 pub fn carry_out(
     session: Session,
     state: State,
-    source: u64,
-    part: Part,
-    slow: bool,
-    c: Call,
+    source: Source,
+    wired: Wired<'_>,
+    command: Command,
     data: &[u8],
     work: &mut [u8],
     memory: &mut [u8],
-    area: &[u8],
 ) -> Play {
-    let settings = session.settings;
-    let p = Play {
-        stepped: start(c, session, data, work),
-        state: state,
-        source: source,
+    let limit = session.settings.poll_limit;
+    let play = Play {
+        stepped: start(command, session, data, work),
+        state,
+        source,
         count: 0,
     };
-    wire::played(p, part, settings.poll_limit, slow, work, memory, area)
+    wire::played(play, wired, limit, work, memory)
 }

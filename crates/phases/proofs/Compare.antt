@@ -1,23 +1,21 @@
 -- The first difference that the room's comparison finds, as the step's pure text tells it.
-use Rattle.std.proofs.Common.{◌≡◌, ℕ, suc, ◌+◌, ◌%◌, ◌^◌, Bool, true, false, eqb, ◌⊎◌, List, [], ◌∷◌, sym, refl, ap, ◌∙◌, inl, inr, ⊎_elim, eq-eqb, ne_eqb, eqb-true}
-use mathlib.Core.Option.{Option, some, none}
+use Rattle.std.proofs.Common.{◌≡◌, ℕ, suc, ◌+◌, ◌%◌, ◌^◌, Bool, true, false, eqb, ◌⊎◌, List, [], ◌∷◌, sym, refl, ap, ◌∙◌, inl, inr, ⊎_elim, eq-eqb, ne_eqb, eqb-true, Option, Some, None}
 use borrow.Author.Tests.{eqb-false}
 use Rattle.room.specs.Room.{differs_from}
-use Rattle.room.specs.declared.Differs.{Differs}
-use Rattle.room.specs.declared.Differs.TheVariants.{Same, At}
+use Rattle.room.specs.declared.Difference.{Difference}
 use Rattle.room.proofs.Laws.{differs_eq, differs_ne}
 use Rattle.phases.specs.declared.Mismatch.{Mismatch}
 use Rattle.phases.specs.Moves.{first_differs}
 
-unfoldable pub mismatch_of : ℕ → Differs → Option Mismatch
-mismatch_of base Same = none
-mismatch_of base (At i x y) = some (record { address = (base + i) % 2 ^ 32; wrote = x; read = y })
+unfoldable pub mismatch_of : ℕ → Option Difference → Option Mismatch
+mismatch_of base None = None
+mismatch_of base (Some d) = Some (record { address = (base + d.at) % 2 ^ 32; wrote = d.has; read = d.read })
 
 first_eq : (base i x y : ℕ) (l r : List ℕ) → x ≡ y → first_differs base i (x ∷ l) (y ∷ r) ≡ first_differs base (suc i) l r
 unfolding first_differs
 first_eq base i x y l r h = rw (first_differs, eq-eqb x y h)
 
-first_ne : (base i x y : ℕ) (l r : List ℕ) → (x ≡ y → ⊥) → first_differs base i (x ∷ l) (y ∷ r) ≡ mismatch_of base (At i x y)
+first_ne : (base i x y : ℕ) (l r : List ℕ) → (x ≡ y → ⊥) → first_differs base i (x ∷ l) (y ∷ r) ≡ mismatch_of base (Some (record { at = i; has = x; read = y }))
 unfolding first_differs mismatch_of
 first_ne base i x y l r h = rw (first_differs, ne_eqb x y h)
 

@@ -1,2 +1,3 @@
 pub mod Compare
-pub mod Phases
+pub mod Lengths
+pub mod Makers

@@ -1,14 +1,13 @@
 -- Where a phase goes when its transaction was answered, as far as no session is needed; what the reply leaves in the room; and as
 -- which command a phase ends.
-use Rattle.std.specs.Prelude.{ℕ, suc, ◌+◌, ◌-◌, ◌%◌, ◌^◌, Bool, true, false, cond, not, List, [], ◌∷◌, take, drop, ◌==◌, nat_lt}
-use Rattle.std.proofs.Math.Option.{Option, some, none}
+use Rattle.std.specs.Prelude.{ℕ, suc, ◌+◌, ◌-◌, ◌%◌, ◌^◌, Bool, true, false, cond, not, List, [], ◌∷◌, take, drop, ◌==◌, nat_lt, Some, None, Option, Result, Ok, Err}
+use Rattle.sfdp.specs.declared.SFDPParameterHeader.{SFDPParameterHeader}
+use Rattle.sfdp.specs.declared.SFDPError.{SFDPError}
 use Rattle.dwords.specs.Dwords.{byte_at, bits}
 use Rattle.sfdp.specs.Jesd216.{read_header}
-use Rattle.sfdp.specs.declared.ReadHeader.{ReadHeader}
-use Rattle.sfdp.specs.declared.ReadHeader.TheVariants as OfHeader
-use Rattle.erase_plan.specs.declared.Next.{Next}
-use Rattle.erase_plan.specs.declared.Next.TheVariants.{Nothing, Entry}
-use Rattle.commands.specs.declared.Answer.TheVariants.{Done, DoneBool, ReadbackError, InvalidSFDPHeader, Busy, NoSFDP}
+use Rattle.erase_plan.specs.declared.NextEntry.{NextEntry}
+use Rattle.commands.specs.Answers.{refusal_of}
+use Rattle.commands.specs.declared.Answer.TheVariants.{Done, DoneBool, ReadbackError, Busy}
 use Rattle.room.specs.Room.{laid}
 use Rattle.commands.specs.Commands.{blank, id_at, first_id}
 use Rattle.phases.specs.declared.Job.{Job}
@@ -39,10 +38,9 @@ unfoldable pub to_before : Job → Phase
 to_before J = cond (nat_lt J.base J.from) (Reading (Reads.Before J)) (to_after J)
 
 -- ---- a read's reply
-unfoldable pub with_header : ReadHeader → Phase
-with_header OfHeader.NoSFDP = Ended Ends.Other NoSFDP
-with_header OfHeader.InvalidSFDPHeader = Ended Ends.Other InvalidSFDPHeader
-with_header (OfHeader.Header h) = Reading (Reads.Table h.minor h.plen h.ptp)
+unfoldable pub with_header : Result SFDPParameterHeader SFDPError → Phase
+with_header (Err e) = Ended Ends.Other (refusal_of e)
+with_header (Ok h) = Reading (Reads.Table h.minor h.plen h.ptp)
 
 -- the phase after it; of a table the session decides the answer
 unfoldable pub after_read : ReadCommand → List ℕ → Phase
@@ -128,9 +126,9 @@ unfoldable pub last_written : Job → List ℕ → ℕ
 last_written J room = cond (blank (take (J.top - J.last) (drop (J.last + 1 - J.base) room))) (J.last - J.base) (J.top - J.base)
 
 -- an operation is done: the next one of the command, or what follows
-unfoldable pub next_erase : Next → ℕ → (ℕ → Phase) → Phase → Phase
-next_erase Nothing last on over' = over'
-next_erase (Entry e stop) last on over' = cond (nat_lt stop last) (on (stop + 1)) over'
+unfoldable pub next_erase : Option NextEntry → ℕ → (ℕ → Phase) → Phase → Phase
+next_erase None last on over' = over'
+next_erase (Some e) last on over' = cond (nat_lt e.stop last) (on (e.stop + 1)) over'
 
 unfoldable pub next_write : ℕ → ℕ → (ℕ → Phase) → Phase → Phase
 next_write stop to on over' = cond (nat_lt stop to) (on (stop + 1)) over'
@@ -151,14 +149,14 @@ still_busy (Polls.Write c) left = cond (left == 0) (Ended (write_ends c) Busy) (
 
 -- ---- verify: the first differing byte, if there is one
 unfoldable pub first_differs : ℕ → ℕ → List ℕ → List ℕ → Option Mismatch
-first_differs base i [] r = none
-first_differs base i (x ∷ l) [] = none
+first_differs base i [] r = None
+first_differs base i (x ∷ l) [] = None
 first_differs base i (x ∷ l) (y ∷ r) =
-    elim (x == y) [ true ↦ first_differs base (suc i) l r | false ↦ some (record { address = (base + i) % 2 ^ 32; wrote = x; read = y }) ]
+    elim (x == y) [ true ↦ first_differs base (suc i) l r | false ↦ Some (record { address = (base + i) % 2 ^ 32; wrote = x; read = y }) ]
 
 unfoldable pub judged : Job → Option Mismatch → Phase
-judged J none = Ended (Ends.Program J true) Done
-judged J (some m) = Verifying (Verifies.Tell J m)
+judged J None = Ended (Ends.Program J true) Done
+judged J (Some m) = Verifying (Verifies.Tell J m)
 
 unfoldable pub verify_on : VerifyCommand → List ℕ → List ℕ → Phase
 verify_on (Verifies.Compare J to) r room = judged J (first_differs J.base 0 (take (to + 1) room) r)

@@ -1,9 +1,8 @@
 -- What a phase waits on, as far as no session is needed: the transaction of each command, and the room that a command needs.
-use Rattle.std.specs.Prelude.{ℕ, ◌+◌, ◌-◌, ◌*◌, ◌/◌, ◌%◌, ◌^◌, min, Bool, true, false, cond, ◌==◌}
+use Rattle.std.specs.Prelude.{ℕ, ◌+◌, ◌-◌, ◌*◌, ◌/◌, ◌%◌, ◌^◌, min, Bool, true, false, cond, ◌==◌, Some, None, Option}
 use Rattle.settings.specs.declared.Settings.{Settings}
 use Rattle.settings.specs.Limits.{page_of}
-use Rattle.erase_plan.specs.declared.Next.{Next}
-use Rattle.erase_plan.specs.declared.Next.TheVariants.{Nothing, Entry}
+use Rattle.erase_plan.specs.declared.NextEntry.{NextEntry}
 use Rattle.phases.specs.declared.Job.{Job}
 use Rattle.phases.specs.declared.ReadCommand.{ReadCommand}
 use Rattle.phases.specs.declared.ReadCommand.TheVariants as Reads
@@ -40,18 +39,18 @@ read_tx s Reads.IdAgain = bare 0x9F 16
 read_tx s Reads.Protected = bare 0x05 1
 
 -- ---- a plan's entry, if there is one
-unfoldable pub block_tx : ℕ → Next → Transaction
-block_tx bytes Nothing = addressed 0 bytes 0 false 0
-block_tx bytes (Entry e stop) = record {
-  opcode = e.opcode;
+unfoldable pub block_tx : ℕ → Option NextEntry → Transaction
+block_tx bytes None = addressed 0 bytes 0 false 0
+block_tx bytes (Some e) = record {
+  opcode = e.entry.opcode;
   addressed = bytes;
-  address = e.base;
+  address = e.entry.base;
   dummy = false;
   from = 0;
   len = 0;
   reply = 0;
   poll = false;
-  delay = cond (e.timed == 1) (e.time / 2) 0;
+  delay = cond (e.entry.timed == 1) (e.entry.time / 2) 0;
 }
 
 -- ---- a page part: of the room's bytes for address a, from byte off on, to the page's end or to the byte `to`; its last byte

@@ -6,11 +6,11 @@ pub mod polls;
 pub mod reads;
 pub mod replies;
 
-ghost use Rattle.std.specs.Prelude.{◌≡◌, ℕ, ◌+◌, ◌-◌, ◌%◌, ◌^◌, true};
+ghost use Rattle.std.specs.Prelude.{◌≡◌, ◌+◌, ◌-◌, ◌%◌, ◌^◌, true};
 ghost use Rattle.phases.specs.Waits.{bare, addressed, read_tx, block_tx, part_last, page_tx, write_tx, verify_tx, reset_tx, is_poll, reply_of, span_of, read_need, erase_need, write_need, poll_need, verify_need, need_of};
 
 use commands::Answer;
-use erase_plan::Next;
+use erase_plan::NextEntry;
 use settings::Settings;
 
 // What a program is about: the first and last address of its data, and of its plan's span. verified: read back at the end.
@@ -149,18 +149,11 @@ pub struct Transaction {
 
 // ---- numbers
 
-// The difference, 0 where it would be below 0.
-pub fn minus(a: u64, b: u64) -> u64
-    ensures { result ≡ a - b }
-{
-    if a < b { 0 } else { a - b }
-}
-
 // The bytes of a program's span.
 pub fn span_of(job: Job) -> u64
     ensures { result ≡ span_of job }
 {
-    minus(job.top as u64 + 1, job.base as u64)
+    (job.top as u64 + 1).saturating_sub(job.base as u64)
 }
 
 // ---- transactions
@@ -169,13 +162,13 @@ pub fn bare_tx(opcode: u8, reply: u64) -> Transaction
     ensures { result ≡ bare opcode reply }
 {
     Transaction {
-        opcode: opcode,
+        opcode,
         addressed: 0,
         address: 0,
         dummy: false,
         from: 0,
         len: 0,
-        reply: reply,
+        reply,
         poll: false,
         delay: 0,
     }
@@ -185,30 +178,21 @@ fn addressed_tx(opcode: u8, bytes: u8, address: u32, dummy: bool, reply: u64) ->
     ensures { result ≡ addressed opcode bytes address dummy reply }
 {
     Transaction {
-        opcode: opcode,
         addressed: bytes,
-        address: address,
-        dummy: dummy,
-        from: 0,
-        len: 0,
-        reply: reply,
-        poll: false,
-        delay: 0,
+        address,
+        dummy,
+        ..bare_tx(opcode, reply)
     }
 }
 
+#[tactic(auto, unfolding(crate::specs::Waits::read_tx))]
 pub fn read_tx(s: Settings, c: ReadCommand) -> Transaction
     ensures { result ≡ read_tx s c }
 {
     let bytes = s.address_bytes;
     match c {
-        ReadCommand::Read(legacy, a, n) => {
-            if legacy {
-                addressed_tx(0x03, bytes, a, false, n)
-            } else {
-                addressed_tx(0x0B, bytes, a, true, n)
-            }
-        }
+        ReadCommand::Read(true, a, n) => addressed_tx(0x03, bytes, a, false, n),
+        ReadCommand::Read(false, a, n) => addressed_tx(0x0B, bytes, a, true, n),
         ReadCommand::Header => addressed_tx(0x5A, 3, 0, true, 8),
         ReadCommand::Headers(more) => addressed_tx(0x5A, 3, 0, true, 16 + 8 * (more as u64)),
         ReadCommand::Table(_, plen, ptp) => addressed_tx(0x5A, 3, ptp, true, 4 * (plen as u64)),
@@ -224,45 +208,33 @@ pub fn read_tx(s: Settings, c: ReadCommand) -> Transaction
 fn before_tx(bytes: u8, job: Job) -> Transaction
     ensures { result ≡ addressed 11 bytes job.base true (job.from - job.base) }
 {
-    addressed_tx(
-        0x0B,
-        bytes,
-        job.base,
-        true,
-        minus(job.from as u64, job.base as u64),
-    )
+    let n = job.from.saturating_sub(job.base) as u64;
+    addressed_tx(0x0B, bytes, job.base, true, n)
 }
 
 // The bytes of the span after the data.
 fn after_tx(bytes: u8, job: Job) -> Transaction
     ensures { result ≡ addressed 11 bytes ((job.last + 1) % 2 ^ 32) true (job.top - job.last) }
 {
-    let at = std::num::wrapping_add_u32(job.last, 1);
-    addressed_tx(
-        0x0B,
-        bytes,
-        at,
-        true,
-        minus(job.top as u64, job.last as u64),
-    )
+    let n = job.top.saturating_sub(job.last) as u64;
+    addressed_tx(0x0B, bytes, job.last.wrapping_add(1), true, n)
 }
 
-pub fn block_tx(bytes: u8, next: Next) -> Transaction
+#[tactic(auto, using(std::proofs::lemmas::Bool::Decides::nat_tests), unfolding(crate::specs::Waits::block_tx))]
+pub fn block_tx(bytes: u8, next: Option<NextEntry>) -> Transaction
     ensures { result ≡ block_tx bytes next }
 {
     match next {
-        Next::Nothing => addressed_tx(0, bytes, 0, false, 0),
-        Next::Entry { entry, stop: _ } => {
-            let mut t = addressed_tx(entry.opcode, bytes, entry.base, false, 0);
-            if entry.timed == 1 {
-                t.delay = entry.time / 2;
-            }
-            t
-        }
+        None => addressed_tx(0, bytes, 0, false, 0),
+        Some(NextEntry { entry, .. }) => Transaction {
+            delay: if entry.timed == 1 { entry.time / 2 } else { 0 },
+            ..addressed_tx(entry.opcode, bytes, entry.base, false, 0)
+        },
     }
 }
 
 // The last byte of the page part that starts at byte off.
+#[tactic(auto, unfolding(crate::specs::Waits::part_last))]
 pub fn part_last(page: u32, a: u32, off: u32, to: u32) -> u32
     ensures { result ≡ part_last page a off to }
 {
@@ -272,27 +244,25 @@ pub fn part_last(page: u32, a: u32, off: u32, to: u32) -> u32
     } else {
         page as u64 - place % (page as u64)
     };
-    let end = minus(off as u64 + left, 1);
-    if end < to as u64 { end as u32 } else { to }
+    (off as u64 + left).saturating_sub(1).min(to as u64) as u32
 }
 
+#[tactic(auto, unfolding(crate::specs::Waits::page_tx))]
 fn page_tx(s: Settings, pause: u32, a: u32, to: u32, off: u32) -> Transaction
     ensures { result ≡ page_tx s pause a to off }
 {
     let stop = part_last(s.page(), a, off, to);
     Transaction {
-        opcode: 0x02,
         addressed: s.address_bytes,
-        address: std::num::wrapping_add_u32(a, off),
-        dummy: false,
+        address: a.wrapping_add(off),
         from: off,
-        len: minus(stop as u64 + 1, off as u64),
-        reply: 0,
-        poll: false,
+        len: (stop as u64 + 1).saturating_sub(off as u64),
         delay: pause,
+        ..bare_tx(0x02, 0)
     }
 }
 
+#[tactic(auto, unfolding(crate::specs::Waits::write_tx))]
 pub fn write_tx(s: Settings, pause: u32, c: WriteCommand) -> Transaction
     ensures { result ≡ write_tx s pause c }
 {
@@ -302,6 +272,7 @@ pub fn write_tx(s: Settings, pause: u32, c: WriteCommand) -> Transaction
     }
 }
 
+#[tactic(auto, unfolding(crate::specs::Waits::verify_tx))]
 pub fn verify_tx(bytes: u8, c: VerifyCommand) -> Transaction
     ensures { result ≡ verify_tx bytes c }
 {
@@ -309,10 +280,11 @@ pub fn verify_tx(bytes: u8, c: VerifyCommand) -> Transaction
         VerifyCommand::Compare(job, to) => {
             addressed_tx(0x0B, bytes, job.base, true, to as u64 + 1)
         }
-        VerifyCommand::Tell(_, _) => bare_tx(0x05, 1),
+        VerifyCommand::Tell(..) => bare_tx(0x05, 1),
     }
 }
 
+#[tactic(auto, unfolding(crate::specs::Waits::reset_tx))]
 pub fn reset_tx(c: ResetCommand) -> Transaction
     ensures { result ≡ reset_tx c }
 {
@@ -326,112 +298,54 @@ pub fn reset_tx(c: ResetCommand) -> Transaction
 // ---- what is asked of the host, by the phase alone
 
 // Whether a phase waits on a poll.
+#[tactic(auto, unfolding(crate::specs::Waits::is_poll))]
 pub fn is_poll(p: Phase) -> bool
     ensures { result ≡ is_poll p }
 {
-    match p {
-        Phase::Reading { command: _ } => false,
-        Phase::Erasing {
-            command: _,
-            enabled: _,
-        } => false,
-        Phase::Writing {
-            command: _,
-            enabled: _,
-        } => false,
-        Phase::Polling {
-            command: _,
-            left: _,
-        } => true,
-        Phase::Verifying { command: _ } => false,
-        Phase::Resetting { command: _ } => false,
-        Phase::Ended {
-            command: _,
-            answer: _,
-        } => false,
-    }
+    matches!(p, Phase::Polling { .. })
 }
 
-fn read_reply(c: ReadCommand) -> u64
-    ensures { (x : Settings) → result ≡ (read_tx x c).reply }
-{
-    match c {
-        ReadCommand::Read(_, _, n) => n,
-        ReadCommand::Header => 8,
-        ReadCommand::Headers(more) => 16 + 8 * (more as u64),
-        ReadCommand::Table(_, plen, _) => 4 * (plen as u64),
-        ReadCommand::Before(job) => minus(job.from as u64, job.base as u64),
-        ReadCommand::After(job) => minus(job.top as u64, job.last as u64),
-        ReadCommand::Id => 3,
-        ReadCommand::IdAgain => 16,
-        ReadCommand::Protected => 1,
-    }
-}
-
-fn verify_reply(c: VerifyCommand) -> u64
-    ensures { (bytes : ℕ) → result ≡ (verify_tx bytes c).reply }
-{
-    match c {
-        VerifyCommand::Compare(_, to) => to as u64 + 1,
-        VerifyCommand::Tell(_, _) => 1,
-    }
-}
-
-// How many bytes its transaction asks for.
+// How many bytes its transaction asks for, the same by all settings.
+#[tactic(auto, using(crate::proofs::Lengths::read_same, crate::proofs::Lengths::verify_same), unfolding(crate::specs::Waits::reply_of))]
 pub fn reply_of(p: Phase) -> u64
     ensures { (x : Settings) → result ≡ reply_of x p }
 {
     match p {
-        Phase::Reading { command } => read_reply(command),
-        Phase::Erasing {
-            command: _,
-            enabled: _,
-        } => 0,
-        Phase::Writing {
-            command: _,
-            enabled: _,
-        } => 0,
-        Phase::Polling {
-            command: _,
-            left: _,
-        } => 1,
-        Phase::Verifying { command } => verify_reply(command),
-        Phase::Resetting { command: _ } => 0,
-        Phase::Ended {
-            command: _,
-            answer: _,
-        } => 0,
+        Phase::Reading { command } => read_tx(Settings::new(), command).reply,
+        Phase::Verifying { command } => verify_tx(0, command).reply,
+        Phase::Polling { .. } => 1,
+        Phase::Erasing { .. }
+        | Phase::Writing { .. }
+        | Phase::Resetting { .. }
+        | Phase::Ended { .. } => 0,
     }
 }
 
 // ---- the room that a command needs
 
+#[tactic(auto, unfolding(crate::specs::Waits::read_need))]
 fn read_need(c: ReadCommand) -> u64
     ensures { result ≡ read_need c }
 {
     match c {
         ReadCommand::Read(_, _, n) => n,
-        ReadCommand::Header => 2056,
-        ReadCommand::Headers(_) => 2056,
-        ReadCommand::Table(_, _, _) => 2056,
-        ReadCommand::Before(job) => span_of(job),
-        ReadCommand::After(job) => span_of(job),
-        ReadCommand::Id => 0,
-        ReadCommand::IdAgain => 0,
-        ReadCommand::Protected => 0,
+        ReadCommand::Header | ReadCommand::Headers(_) | ReadCommand::Table(..) => 2056,
+        ReadCommand::Before(job) | ReadCommand::After(job) => span_of(job),
+        ReadCommand::Id | ReadCommand::IdAgain | ReadCommand::Protected => 0,
     }
 }
 
+#[tactic(auto, unfolding(crate::specs::Waits::erase_need))]
 fn erase_need(c: EraseCommand) -> u64
     ensures { result ≡ erase_need c }
 {
     match c {
-        EraseCommand::Chip => 0,
-        EraseCommand::Sectors(_, _) => 0,
+        EraseCommand::Chip | EraseCommand::Sectors(..) => 0,
         EraseCommand::Program(job, _) => span_of(job),
     }
 }
 
+#[tactic(auto, unfolding(crate::specs::Waits::write_need))]
 fn write_need(c: WriteCommand) -> u64
     ensures { result ≡ write_need c }
 {
@@ -441,6 +355,7 @@ fn write_need(c: WriteCommand) -> u64
     }
 }
 
+#[tactic(auto, unfolding(crate::specs::Waits::poll_need))]
 fn poll_need(c: PollCommand) -> u64
     ensures { result ≡ poll_need c }
 {
@@ -451,35 +366,26 @@ fn poll_need(c: PollCommand) -> u64
     }
 }
 
+#[tactic(auto, unfolding(crate::specs::Waits::verify_need))]
 fn verify_need(c: VerifyCommand) -> u64
     ensures { result ≡ verify_need c }
 {
     match c {
-        VerifyCommand::Compare(job, _) => span_of(job),
-        VerifyCommand::Tell(job, _) => span_of(job),
+        VerifyCommand::Compare(job, _) | VerifyCommand::Tell(job, _) => span_of(job),
     }
 }
 
 // The room that must be lent at each step of a command.
+#[tactic(auto, unfolding(crate::specs::Waits::need_of))]
 pub fn need_of(p: Phase) -> u64
     ensures { result ≡ need_of p }
 {
     match p {
         Phase::Reading { command } => read_need(command),
-        Phase::Erasing {
-            command,
-            enabled: _,
-        } => erase_need(command),
-        Phase::Writing {
-            command,
-            enabled: _,
-        } => write_need(command),
-        Phase::Polling { command, left: _ } => poll_need(command),
+        Phase::Erasing { command, .. } => erase_need(command),
+        Phase::Writing { command, .. } => write_need(command),
+        Phase::Polling { command, .. } => poll_need(command),
         Phase::Verifying { command } => verify_need(command),
-        Phase::Resetting { command: _ } => 0,
-        Phase::Ended {
-            command: _,
-            answer: _,
-        } => 0,
+        Phase::Resetting { .. } | Phase::Ended { .. } => 0,
     }
 }

@@ -1,5 +1,5 @@
 // What comes when an operation was sent, polled and done, as far as no plan is needed.
-ghost use Rattle.std.specs.Prelude.{◌≡◌, ◌+◌, ◌-◌, false, if◌then◌else◌, nat_eq};
+ghost use Rattle.std.specs.Prelude.{◌≡◌, ◌+◌, ◌-◌, false};
 ghost use Rattle.commands.specs.Transactions.{ready};
 ghost use Rattle.phases.specs.Moves.{to_polls, last_written, next_erase, to_verify, after_write, still_busy, reset_on};
 
@@ -7,9 +7,10 @@ use crate::{
     Command, EraseCommand, Job, Phase, PollCommand, ResetCommand, VerifyCommand, WriteCommand, ends,
 };
 use commands::Answer;
-use erase_plan::Next;
+use erase_plan::NextEntry;
 
 // On to the polls, or answer 9 at once where the limit is 0.
+#[tactic(auto, using(std::proofs::lemmas::Bool::Decides::nat_tests), unfolding(crate::specs::Moves::to_polls))]
 pub fn to_polls(limit: u16, c: PollCommand) -> Phase
     ensures { result ≡ to_polls limit c }
 {
@@ -26,48 +27,41 @@ pub fn to_polls(limit: u16, c: PollCommand) -> Phase
     }
 }
 
-// The difference of two addresses, 0 where it would be below 0.
-fn apart(a: u32, b: u32) -> u32
-    ensures { result ≡ a - b }
-{
-    if a < b { 0 } else { a - b }
-}
-
 // The first byte of the room after a program's data.
 pub fn data_end(job: Job) -> u64
     ensures { result ≡ job.last + 1 - job.base }
 {
-    let end = job.last as u64 + 1;
-    let base = job.base as u64;
-    if end < base { 0 } else { end - base }
+    (job.last as u64 + 1).saturating_sub(job.base as u64)
 }
 
 // The last byte of the room that a program writes.
+#[tactic(auto, unfolding(crate::specs::Moves::last_written))]
 fn last_written(job: Job, work: &[u8]) -> u32
     ensures { result ≡ last_written job work.now }
 {
-    let past = apart(job.top, job.last) as u64;
+    let past = job.top.saturating_sub(job.last) as u64;
     if room::is_blank(work, data_end(job), past) {
-        apart(job.last, job.base)
+        job.last.saturating_sub(job.base)
     } else {
-        apart(job.top, job.base)
+        job.top.saturating_sub(job.base)
     }
 }
 
-fn erasing(c: EraseCommand) -> Phase
-    ensures { result ≡ Phase.Erasing c false }
+// Apart from `writing`: each is one variant of Phase with its own command type.
+fn erasing(command: EraseCommand) -> Phase
+    ensures { result ≡ Phase.Erasing command false }
 {
     Phase::Erasing {
-        command: c,
+        command,
         enabled: false,
     }
 }
 
-fn writing(c: WriteCommand) -> Phase
-    ensures { result ≡ Phase.Writing c false }
+fn writing(command: WriteCommand) -> Phase
+    ensures { result ≡ Phase.Writing command false }
 {
     Phase::Writing {
-        command: c,
+        command,
         enabled: false,
     }
 }
@@ -75,45 +69,38 @@ fn writing(c: WriteCommand) -> Phase
 pub fn done() -> Phase
     ensures { result ≡ Phase.Ended Command.Other Answer.Done }
 {
-    Phase::Ended {
-        command: Command::Other,
-        answer: Answer::Done,
-    }
+    ends::over(Answer::Done)
 }
 
 // The plan of erase_sectors goes on after an entry, whatever is in the room.
-pub fn after_sectors(next: Next, last: u32) -> Phase
+#[tactic(auto, using(std::proofs::lemmas::Bool::Decides::nat_tests), unfolding(crate::specs::Moves::next_erase))]
+pub fn after_sectors(next: Option<NextEntry>, last: u32) -> Phase
     ensures { result ≡ next_erase next last (λ p. Phase.Erasing (EraseCommand.Sectors p last) false) (Phase.Ended Command.Other Answer.Done) }
 {
     match next {
-        Next::Nothing => done(),
-        Next::Entry { entry: _, stop } => {
-            if stop < last {
-                erasing(EraseCommand::Sectors(stop + 1, last))
-            } else {
-                done()
-            }
+        Some(NextEntry { stop, .. }) if stop < last => {
+            erasing(EraseCommand::Sectors(stop + 1, last))
         }
+        _ => done(),
     }
 }
 
-// The plan of a program goes on after an entry; after the plan the writes begin.
-pub fn after_program(next: Next, job: Job, work: &[u8]) -> Phase
+// The plan of a program goes on after an entry; after the plan the writes begin. Apart from `after_sectors`: both arms are
+// others, and the one guard that is the same would come back as an Option to match again.
+#[tactic(auto, using(std::proofs::lemmas::Bool::Decides::nat_tests), unfolding(crate::specs::Moves::next_erase))]
+pub fn after_program(next: Option<NextEntry>, job: Job, work: &[u8]) -> Phase
     ensures { result ≡ next_erase next job.last (λ p. Phase.Erasing (EraseCommand.Program job p) false) (Phase.Writing (WriteCommand.Program job (last_written job work.now) 0) false) }
 {
     match next {
-        Next::Nothing => writing(WriteCommand::Program(job, last_written(job, work), 0)),
-        Next::Entry { entry: _, stop } => {
-            if stop < job.last {
-                erasing(EraseCommand::Program(job, stop + 1))
-            } else {
-                writing(WriteCommand::Program(job, last_written(job, work), 0))
-            }
+        Some(NextEntry { stop, .. }) if stop < job.last => {
+            erasing(EraseCommand::Program(job, stop + 1))
         }
+        _ => writing(WriteCommand::Program(job, last_written(job, work), 0)),
     }
 }
 
 // All is written: the readback, or the end.
+#[tactic(auto, unfolding(crate::specs::Moves::to_verify))]
 fn to_verify(job: Job, to: u32) -> Phase
     ensures { result ≡ to_verify job to }
 {
@@ -130,6 +117,7 @@ fn to_verify(job: Job, to: u32) -> Phase
 }
 
 // A page write is done: the next part, or what follows.
+#[tactic(auto, using(std::proofs::lemmas::Bool::Decides::nat_tests), unfolding(crate::specs::Moves::after_write, crate::specs::Moves::next_write))]
 pub fn after_write(page: u32, c: WriteCommand) -> Phase
     ensures { result ≡ after_write page c }
 {
@@ -154,35 +142,17 @@ pub fn after_write(page: u32, c: WriteCommand) -> Phase
 }
 
 // The part is still busy: another poll, or answer 9 after the last one. is_busy only tells.
+#[tactic(auto, unfolding(crate::specs::Moves::still_busy, crate::specs::Moves::to_polls, crate::specs::Moves::poll_ends))]
 pub fn still_busy(c: PollCommand, left: u16) -> Phase
     ensures { result ≡ still_busy c left }
 {
     match c {
-        PollCommand::Once => Phase::Ended {
-            command: Command::Other,
-            answer: Answer::DoneBool(true),
-        },
-        PollCommand::Erase(e) => busy_again(c, ends::erase_ends(e), left),
-        PollCommand::Write(w) => busy_again(c, ends::write_ends(w), left),
+        PollCommand::Once => ends::over(Answer::DoneBool(true)),
+        PollCommand::Erase(_) | PollCommand::Write(_) => to_polls(left, c),
     }
 }
 
-fn busy_again(c: PollCommand, e: Command, left: u16) -> Phase
-    ensures { result ≡ (if nat_eq left 0 then Phase.Ended e Answer.Busy else Phase.Polling c (left - 1)) }
-{
-    if left == 0 {
-        Phase::Ended {
-            command: e,
-            answer: Answer::Busy,
-        }
-    } else {
-        Phase::Polling {
-            command: c,
-            left: left - 1,
-        }
-    }
-}
-
+#[tactic(auto, unfolding(commands::specs::Transactions::ready))]
 pub fn is_ready(flag: bool, status: u8) -> bool
     ensures { result ≡ ready flag status }
 {
@@ -193,6 +163,7 @@ pub fn is_ready(flag: bool, status: u8) -> bool
     }
 }
 
+#[tactic(auto, unfolding(crate::specs::Moves::reset_on))]
 pub fn reset_on(c: ResetCommand) -> Phase
     ensures { result ≡ reset_on c }
 {
@@ -200,7 +171,6 @@ pub fn reset_on(c: ResetCommand) -> Phase
         ResetCommand::Enable => Phase::Resetting {
             command: ResetCommand::Reset,
         },
-        ResetCommand::Reset => done(),
-        ResetCommand::F0 => done(),
+        ResetCommand::Reset | ResetCommand::F0 => done(),
     }
 }

@@ -3,22 +3,14 @@ ghost use Rattle.std.specs.Prelude.{◌≡◌};
 ghost use Rattle.commands.specs.Commands.{id_at, first_id};
 ghost use Rattle.phases.specs.Moves.{to_after, to_before, with_header, after_read};
 
-use crate::{Command, EraseCommand, Job, Phase, ReadCommand};
+use crate::ends::over;
+use crate::{EraseCommand, Job, Phase, ReadCommand};
 use commands::Answer;
 use dwords::byte_at;
-use sfdp::ReadHeader;
-
-// A phase that ends another command than a program.
-fn over(a: Answer) -> Phase
-    ensures { result ≡ Phase.Ended Command.Other a }
-{
-    Phase::Ended {
-        command: Command::Other,
-        answer: a,
-    }
-}
+use sfdp::{SFDPError, SFDPParameterHeader};
 
 // A program goes on after the bytes before its data were read.
+#[tactic(auto, using(std::proofs::lemmas::Bool::Decides::nat_tests), unfolding(crate::specs::Moves::to_after))]
 pub fn to_after(job: Job) -> Phase
     ensures { result ≡ to_after job }
 {
@@ -35,6 +27,7 @@ pub fn to_after(job: Job) -> Phase
 }
 
 // A program's first phase.
+#[tactic(auto, using(std::proofs::lemmas::Bool::Decides::nat_tests), unfolding(crate::specs::Moves::to_before))]
 pub fn to_before(job: Job) -> Phase
     ensures { result ≡ to_before job }
 {
@@ -48,15 +41,15 @@ pub fn to_before(job: Job) -> Phase
 }
 
 // What the first header leads to.
-fn with_header(h: ReadHeader) -> Phase
+#[tactic(auto, unfolding(crate::specs::Moves::with_header))]
+fn with_header(h: Result<SFDPParameterHeader, SFDPError>) -> Phase
     ensures { result ≡ with_header h }
 {
     match h {
-        ReadHeader::NoSFDP => over(Answer::NoSFDP),
-        ReadHeader::InvalidSFDPHeader => over(Answer::InvalidSFDPHeader),
-        ReadHeader::Header(p) => Phase::Reading {
+        Ok(p) => Phase::Reading {
             command: ReadCommand::Table(p.minor, p.plen, p.ptp),
         },
+        Err(e) => over(Answer::from(e)),
     }
 }
 
@@ -64,36 +57,34 @@ fn id_at(at: u8, reply: &[u8]) -> Answer
     ensures { result ≡ id_at at reply.now }
 {
     let i = at as usize;
-    let high = byte_at(reply, i + 1) as u16;
-    let low = byte_at(reply, i + 2) as u16;
-    Answer::DoneId(at, byte_at(reply, i), 256 * high + low)
+    let device = u16::from_be_bytes([byte_at(reply, i + 1), byte_at(reply, i + 2)]);
+    Answer::DoneId(at, byte_at(reply, i), device)
 }
 
 // The first of bytes 1 to 13 that is not 7F, with the two after it.
+#[tactic(auto, using(crate::proofs::Makers::more, crate::proofs::Makers::found, crate::proofs::Makers::none))]
 fn first_id(reply: &[u8]) -> Answer
     ensures { result ≡ first_id 13 1 reply.now }
 {
-    let mut at: u8 = 1;
-    while at < 14 {
+    for at in 1..14u8 {
         if byte_at(reply, at as usize) != 0x7F {
             return id_at(at, reply);
         }
-        at += 1;
     }
     Answer::InvalidManufacturer
 }
 
 // The phase after a read's full reply. A table changes the session too, and its answer is the session's.
+#[tactic(auto, using(std::proofs::lemmas::Bool::Decides::nat_tests), unfolding(crate::specs::Moves::after_read))]
 pub fn read_on(c: ReadCommand, reply: &[u8]) -> Phase
     ensures { result ≡ after_read c reply.now }
 {
     match c {
-        ReadCommand::Read(_, _, _) => over(Answer::Done),
+        ReadCommand::Read(..) | ReadCommand::Table(..) => over(Answer::Done),
         ReadCommand::Header => Phase::Reading {
             command: ReadCommand::Headers(byte_at(reply, 6)),
         },
         ReadCommand::Headers(_) => with_header(sfdp::read_header(reply)),
-        ReadCommand::Table(_, _, _) => over(Answer::Done),
         ReadCommand::Before(job) => to_after(job),
         ReadCommand::After(job) => Phase::Erasing {
             command: EraseCommand::Program(job, job.from),

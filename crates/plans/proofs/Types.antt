@@ -1,4 +1,5 @@
 -- The erase types of a query: sorted, and such that the laws of a plan hold.
+use Rattle.std.proofs.Common.{Ok, None}
 use Prim.Native.Nat.{ℕ, ◌≤◌, ◌<◌}
 use mathlib.Core.Path.{◌≡◌, refl, sym, subst}
 use mathlib.Core.Bool.{Bool, true, ◌&&◌, ◌||◌, not}
@@ -11,7 +12,6 @@ use borrow.Author.Tests.{eqb-false}
 use Rattle.sfdp.specs.declared.FlashParams.{FlashParams}
 use Rattle.sfdp.specs.declared.SFDPEraseInst.{SFDPEraseInst}
 use Rattle.sfdp.specs.declared.SFDPEraseInsts.{SFDPEraseInsts}
-use Rattle.sfdp.specs.declared.ReadParams.TheVariants.{Params}
 use Rattle.sfdp.specs.Jesd216.{erase_type, erase_types, fields, params, accepted, read_table}
 use Rattle.sfdp.specs.Jesd216 as Jesd216
 use Rattle.sfdp.proofs.Laws.{left_of, first_fits, second_fits, sizes_8, sizes_9}
@@ -35,16 +35,19 @@ pub record WasRead (p : FlashParams) : Type 0 where
   pub minor : ℕ
   pub count : ℕ
   pub table : List ℕ
-  pub gives : read_table minor count table ≡ Params p
+  pub gives : read_table minor count table ≡ Ok p
 
 -- ---- no type, and a single one
 pub none_none : present (four_of no_type no_type no_type no_type) ≡ []
 unfolding present
 none_none = rw (kept_none no_type refl)
 
-pub single_one : (size opcode : ℕ) → (size ≡ 0 → ⊥) → present (single size opcode) ≡ (single size opcode).t1 ∷ []
+abbrev sole : ℕ → ℕ → EraseType
+sole size opcode = record { size = size; opcode = opcode; time = None }
+
+pub single_one : (size opcode : ℕ) → (size ≡ 0 → ⊥) → present (single size opcode) ≡ sole size opcode ∷ []
 unfolding present
-single_one size opcode z = rw (kept_none no_type refl, kept_one (single size opcode).t1 z)
+single_one size opcode z = rw (kept_none no_type refl, kept_one (sole size opcode) z)
 
 -- ---- the types of the parameters
 kept_each : (P : EraseType → Type 0) (t : EraseType) → P t → Each P (kept t)
@@ -85,7 +88,7 @@ listed s = present (four_of (type_of s.inst1) (type_of s.inst2) (type_of s.inst3
 listed_each : (P : EraseType → Type 0) (s : SFDPEraseInsts) → Each P (kept (type_of s.inst1)) → Each P (kept (type_of s.inst2))
     → Each P (kept (type_of s.inst3)) → Each P (kept (type_of s.inst4)) → Each P (listed s)
 unfolding present
-listed_each P s p1 p2 p3 p4 = each_append P (a ++ b ++ c) d (each_append P (a ++ b) c (each_append P a b p1 p2) p3) p4
+listed_each P s p1 p2 p3 p4 = each_append P a (b ++ (c ++ (d ++ []))) p1 (each_append P b (c ++ (d ++ [])) p2 (each_append P c (d ++ []) p3 (each_append P d [] p4 tt)))
   where
     a : List EraseType
     a = kept (type_of s.inst1)
@@ -129,7 +132,7 @@ of_params_lem s = sorted_present (type_of s.inst1) (type_of s.inst2) (type_of s.
 module _ (P : List EraseType → Type 0) (s : Settings) (known : Bool) (p : FlashParams) (of_read : known ≡ true → P (sort (listed p.erase_insts)))
     (none : P []) (one : (t : EraseType) → 0 < t.size → (t.size ≡ 4096) ⊎ (t.size ≡ s.erase_size) → P (t ∷ [])) where
   by_single : (size opcode : ℕ) → (size ≡ 0 → ⊥) → (size ≡ 4096) ⊎ (size ≡ s.erase_size) → P (present (single size opcode))
-  by_single size opcode z k = subst P (sym (single_one size opcode z)) (one (single size opcode).t1 (omega (arith, z)) k)
+  by_single size opcode z k = subst P (sym (single_one size opcode z)) (one (sole size opcode) (omega (arith, z)) k)
 
   by_settings : P (present (of_settings s))
   unfolding of_settings

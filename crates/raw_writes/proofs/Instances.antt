@@ -1,4 +1,5 @@
 -- The premises of the rules can be met: a session set to a part of 300 bytes, writes that overlap and cross a page, a program, an erase.
+use Rattle.std.proofs.Common.{Some}
 use mathlib.Core.Path.{◌≡◌, refl}
 use mathlib.Core.Bool.{true, false}
 use mathlib.Core.Logic.{inl, inr}
@@ -50,8 +51,7 @@ use Rattle.raw_writes.proofs.Rules.{raw_writes}
 abbrev pub session : Session
 session = with_settings fresh (record {
   address_bytes = 2;
-  capacity_set = true;
-  capacity = 300;
+  capacity = Some 300;
   page_size = 10;
   erase_size = 100;
   erase_opcode = 0x20;
@@ -64,7 +64,7 @@ state = record { memory = λ i. i % 251; latch = true; busy = 0 }
 possible : Possible (kept_of session [])
 possible =
     record {
-      sound = record { address = (omega arith, omega arith); unset = λ e. no_false e; page = omega arith; erase = omega arith; polls = (omega arith, omega arith) };
+      sound = record { address = (omega arith, omega arith); page = omega arith; erase = omega arith; polls = (omega arith, omega arith) };
       read = λ e. no_true e;
     }
 
@@ -81,7 +81,7 @@ begins =
 fits : (room : List ℕ) → Fits odd (kept_of session room)
 unfolding page_of available of_settings present kept by_flag other_command
 fits room =
-    record { given = refl; capacity = refl; addressed = refl; page = record { q = 2; is = refl }; types = (refl, tt); apart = one_apart 0x20 100 refl; poll = λ e. no_true e }
+    record { capacity = refl; addressed = refl; page = record { q = 2; is = refl }; types = (refl, tt); apart = one_apart 0x20 100 refl; poll = λ e. no_true e }
 
 -- a command that is accepted, with so much room, and as many busy polls after each operation
 issue : (c : Call) (room : List ℕ) (n : ℕ) → n ≤ 65535 → Each (λ (x : ℕ). x < 256) (data_of c) → refusal (start_of c session room).out.event ≡ false → Issued odd session c

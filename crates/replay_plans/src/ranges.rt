@@ -1,16 +1,57 @@
 // The range check.
 use dwords::{byte_at, number_at};
-use settings::{RangeCheck, Settings};
-use tallies::{SAME, UNLISTED};
+use settings::Settings;
+use std::fmt;
+use tallies::{Known, is_one_past, number64_at};
 
-pub const R1: u8 = 1;
+// Where the Rust is known to part from docs/SCOPE.md.
+#[derive(Clone, Copy)]
+pub enum Difference {
+    R1,
+    R2,
+    R3,
+}
 
-pub const R2: u8 = 2;
+pub const DIFFERENCES: [Difference; 3] = [Difference::R1, Difference::R2, Difference::R3];
 
-pub const R3: u8 = 3;
+impl fmt::Display for Difference {
+    fn fmt<W: fmt::Write>(&self, f: &mut fmt::Formatter<W>) -> fmt::Result {
+        f.write_str(match self {
+            Difference::R1 => "R1 one byte past the address bytes' limit, the Rust accepts",
+            Difference::R2 => "R2 length 0 at address 0, the Rust panics",
+            Difference::R3 => "R3 the sum passes 64 bits, the Rust panics",
+        })
+    }
+}
 
-pub fn number64(s: &[u8], low: u16, high: u16) -> u64 {
-    number_at(s, low) as u64 + 0x1_0000_0000 * (number_at(s, high) as u64)
+impl Known for Difference {
+    fn place(self) -> usize {
+        self as usize
+    }
+}
+
+pub type Class = tallies::Class<Difference>;
+
+// What the Rust makes of a range.
+#[derive(Clone, Copy, PartialEq, Eq)]
+pub enum Verdict {
+    Accepted,
+    Refused,
+    Panic,
+}
+
+// The number that a record has for it.
+impl TryFrom<u8> for Verdict {
+    type Error = ();
+
+    fn try_from(number: u8) -> Result<Verdict, ()> {
+        match number {
+            0 => Ok(Verdict::Accepted),
+            5 => Ok(Verdict::Refused),
+            255 => Ok(Verdict::Panic),
+            _ => Err(()),
+        }
+    }
 }
 
 // The settings of a record: address bytes, and the capacity if it is set.
@@ -18,60 +59,35 @@ fn settings_of(s: &[u8]) -> Settings {
     let mut t = Settings::new();
     t.address_bytes = byte_at(s, 0);
     if byte_at(s, 1) == 1 {
-        t.set_capacity(number64(s, 16, 20))
+        t.set_capacity(number64_at(s, 16))
     } else {
         t
     }
 }
 
-// A range at address 0 that is one byte longer than the address bytes reach.
-fn one_past(s: &[u8], length: u64) -> bool {
-    if number_at(s, 4) == 0 {
-        match byte_at(s, 0) {
-            1 => length == 257,
-            2 => length == 65_537,
-            3 => length == 16_777_217,
-            4 => length == 4_294_967_297,
-            _ => false,
-        }
-    } else {
-        false
-    }
-}
-
 // A range that we refuse, reporting last.
-fn refused(s: &[u8], last: u32) -> u8 {
-    let verdict = byte_at(s, 2);
-    let address = number_at(s, 4) as u64;
-    let length = number64(s, 8, 12);
-    if verdict == 5 {
-        if number_at(s, 24) == last {
-            return SAME;
+fn refused(s: &[u8], verdict: Verdict, last: u32) -> Class {
+    let address = number_at(s, 4);
+    let length = number64_at(s, 8);
+    match verdict {
+        Verdict::Refused if number_at(s, 24) == last => Class::Same,
+        Verdict::Accepted if is_one_past(byte_at(s, 0), address, length) => {
+            Class::Known(Difference::R1)
         }
-        return UNLISTED;
-    }
-    if verdict == 0 {
-        if one_past(s, length) {
-            return R1;
+        Verdict::Panic if length == 0 && address == 0 => Class::Known(Difference::R2),
+        Verdict::Panic if length != 0 && u64::MAX - length < address as u64 => {
+            Class::Known(Difference::R3)
         }
-        return UNLISTED;
+        _ => Class::Unlisted,
     }
-    if length == 0 {
-        if address == 0 {
-            return R2;
-        }
-        return UNLISTED;
-    }
-    if u64::MAX - length < address {
-        return R3;
-    }
-    UNLISTED
 }
 
-pub fn class_of(s: &[u8]) -> u8 {
-    let t = settings_of(s);
-    match t.check_address_length(number_at(s, 4), number64(s, 8, 12)) {
-        RangeCheck::Fits => { if byte_at(s, 2) == 0 { SAME } else { UNLISTED } }
-        RangeCheck::InvalidAddress(report) => refused(s, report.last),
+pub fn class_of(s: &[u8]) -> Class {
+    // A number of none of them is taken for a panic.
+    let verdict = Verdict::try_from(byte_at(s, 2)).unwrap_or(Verdict::Panic);
+    match settings_of(s).check_address_length(number_at(s, 4), number64_at(s, 8)) {
+        Err(report) => refused(s, verdict, report.last),
+        Ok(()) if verdict == Verdict::Accepted => Class::Same,
+        Ok(()) => Class::Unlisted,
     }
 }

@@ -1,100 +1,139 @@
 // The classes of docs/ORACLE.md, from a record's inputs and what the Rust came to.
-use crate::judge;
-use crate::judge::Alike;
-use crate::play::{Ran, number64};
-use dwords::{byte_at, number_at};
+ghost use Rattle.std.specs.Prelude.{◌<◌};
+
+use crate::outcome::{
+    ACCESS, Alike, BUSY, INVALID_ADDRESS, INVALID_SFDP_PARAMS, NO_SFDP, Outcome, Verdict,
+};
+use crate::record::{Command, Fault, Memory, Record};
+use dwords::{byte_at, dword_at};
 use flash::Session;
-use settings::RangeCheck;
-use tallies::{SAME, UNLISTED, WRONG};
+use std::fmt;
+use tallies::{Known, is_one_past, is_table_short, table_of};
 
-pub const R1: u8 = 1;
+// Where the Rust is known to part from docs/SCOPE.md.
+#[derive(Clone, Copy)]
+pub enum Difference {
+    C1,
+    C2,
+    C3,
+    C4,
+    C5,
+    C6,
+    C7,
+    C8,
+    C9,
+    C10,
+    C11,
+    R1,
+    R2,
+    R3,
+    P2,
+    S1,
+    S2,
+    S3,
+    S4,
+    S5,
+    S7,
+}
 
-pub const R2: u8 = 2;
+pub const DIFFERENCES: [Difference; 21] = [
+    Difference::C1,
+    Difference::C2,
+    Difference::C3,
+    Difference::C4,
+    Difference::C5,
+    Difference::C6,
+    Difference::C7,
+    Difference::C8,
+    Difference::C9,
+    Difference::C10,
+    Difference::C11,
+    Difference::R1,
+    Difference::R2,
+    Difference::R3,
+    Difference::P2,
+    Difference::S1,
+    Difference::S2,
+    Difference::S3,
+    Difference::S4,
+    Difference::S5,
+    Difference::S7,
+];
 
-pub const R3: u8 = 3;
+impl Difference {
+    fn text(self) -> &'static str {
+        match self {
+            Difference::C1 => "C1 erase_sectors up to 2^32, the Rust panics",
+            Difference::C2 => "C2 erase_sectors of 2^32 bytes, the Rust refuses",
+            Difference::C3 => "C3 program up to 2^32, the Rust panics",
+            Difference::C4 => "C4 program's span past the limits, the Rust reads first",
+            Difference::C5 => "C5 program_data past the limits, the Rust writes",
+            Difference::C6 => "C6 program_data inside a page, the Rust panics",
+            Difference::C7 => "C7 program_data of nothing off a page, the Rust panics",
+            Difference::C8 => "C8 program inside a page, the Rust panics",
+            Difference::C9 => "C9 a reply of another length, the Rust takes it or panics",
+            Difference::C10 => "C10 more polls than the limit, the Rust polls on",
+            Difference::C11 => "C11 the second reply counts more headers, the Rust finds no SFDP",
+            Difference::R1 => "R1 one byte past the address bytes' limit, the Rust accepts",
+            Difference::R2 => "R2 length 0 at address 0, the Rust panics",
+            Difference::R3 => "R3 the sum passes 64 bits, the Rust panics",
+            Difference::P2 => "P2 4 KiB erase with opcode FF, the Rust sends it",
+            Difference::S1 => "S1 density exponent 64 or more, the Rust panics",
+            Difference::S2 => "S2 size exponent 32 or more, the Rust panics",
+            Difference::S3 => "S3 minor 5 with 9 to 15 dwords, the Rust panics",
+            Difference::S4 => "S4 minor 6 or more with 9 to 15 dwords, the Rust refuses",
+            Difference::S5 => "S5 access protocol byte not FF, the Rust finds no SFDP",
+            Difference::S7 => "S7 the smallest size twice, the Rust takes the first opcode",
+        }
+    }
+}
 
-pub const P2: u8 = 4;
+impl fmt::Display for Difference {
+    fn fmt<W: fmt::Write>(&self, f: &mut fmt::Formatter<W>) -> fmt::Result {
+        f.write_str(self.text())
+    }
+}
 
-pub const C1: u8 = 5;
+impl Known for Difference {
+    fn place(self) -> usize {
+        self as usize
+    }
+}
 
-pub const C2: u8 = 6;
+pub type Class = tallies::Class<Difference>;
 
-pub const C3: u8 = 7;
-
-pub const C4: u8 = 8;
-
-pub const C5: u8 = 9;
-
-pub const C6: u8 = 10;
-
-pub const C7: u8 = 11;
-
-pub const C8: u8 = 12;
-
-pub const C9: u8 = 13;
-
-pub const C10: u8 = 14;
-
-pub const C11: u8 = 15;
-
-pub const S1: u8 = 16;
-
-pub const S2: u8 = 17;
-
-pub const S3: u8 = 18;
-
-pub const S4: u8 = 19;
-
-pub const S5: u8 = 20;
-
-pub const S7: u8 = 21;
-
-const STUCK: u8 = 254;
-
-const PANIC: u8 = 255;
-
-fn given(holds: bool, class: u8) -> u8 {
-    if holds { class } else { UNLISTED }
+fn given(holds: bool, difference: Difference) -> Class {
+    if holds {
+        Class::Known(difference)
+    } else {
+        Class::Unlisted
+    }
 }
 
 // ---- ranges
 
-fn is_refused(s: &[u8], before: Session) -> bool {
-    let settings = before.settings;
-    match settings.check_address_length(number_at(s, 8), number64(s, 12, 16)) {
-        RangeCheck::Fits => false,
-        RangeCheck::InvalidAddress(_) => true,
-    }
-}
-
-// How far so many address bytes reach.
-fn reach(bytes: u8) -> u64 {
-    match bytes {
-        1 => 256,
-        2 => 65_536,
-        3 => 16_777_216,
-        _ => 4_294_967_296,
-    }
+fn is_refused(r: &Record, before: Session) -> bool {
+    let check = before.settings.check_address_length(r.address, r.length);
+    check.is_err()
 }
 
 // A range that we refuse.
-fn range_class(s: &[u8], before: Session) -> u8 {
-    let settings = before.settings;
-    let address = number_at(s, 8) as u64;
-    let length = number64(s, 12, 16);
-    if (address == 0) & (length == 0) {
-        return R2;
+fn range_class(r: &Record, before: Session) -> Class {
+    if r.address == 0 && r.length == 0 {
+        return Class::Known(Difference::R2);
     }
-    if u64::MAX - length < address {
-        return R3;
+    if u64::MAX - r.length < r.address as u64 {
+        return Class::Known(Difference::R3);
     }
-    let last = std::num::wrapping_sub_u64(length, 1);
-    given((address == 0) & (last == reach(settings.address_bytes)), R1)
+    given(
+        is_one_past(before.settings.address_bytes, r.address, r.length),
+        Difference::R1,
+    )
 }
 
 // Whether the range ends at 2^32.
-fn ends_at_top(s: &[u8]) -> bool {
-    number64(s, 12, 16) == 0x1_0000_0000 - (number_at(s, 8) as u64)
+fn ends_at_top(r: &Record) -> bool {
+    r.length == 0x1_0000_0000 - r.address as u64
 }
 
 // ---- plans
@@ -102,247 +141,213 @@ fn ends_at_top(s: &[u8]) -> bool {
 // No type, and 4 KiB with opcode FF.
 fn is_p2(before: Session) -> bool {
     let p = before.params;
-    let none = match p.sector_erase() {
-        sfdp::SectorErase::Smallest(_, _) => false,
-        sfdp::SectorErase::Nothing => true,
-    };
-    before.known & none & p.legacy_4kb_erase_supported & (p.legacy_4kb_erase_inst == 0xFF)
+    before.known
+        && p.sector_erase().is_none()
+        && p.legacy_4kb_erase_supported
+        && p.legacy_4kb_erase_inst == 0xFF
 }
 
 // Whether a write of so many bytes from an address on ends in its first page, which it does not start.
 fn ends_in_page(before: Session, address: u32, length: u64) -> bool {
-    let settings = before.settings;
-    let page = settings.page();
+    let page = before.settings.page();
     if page == 0 {
-        return false;
-    }
-    if page as u64 <= length {
         return false;
     }
     // No page is longer than 32,768.
     let off = address % page % 32_768;
-    (off != 0) & (off as u64 + length < page as u64)
+    length < page as u64 && off != 0 && off as u64 + length < page as u64
 }
 
 // Whether a program writes in the first page alone: to the end of its data where all that it reads is FF, else of its span.
-fn is_c8(s: &[u8], before: Session) -> bool {
-    let settings = before.settings;
-    let params = before.params;
-    let from = number_at(s, 8);
-    let low = (number64(s, 12, 16) % 0x1_0000_0000) as u32;
-    let last = std::num::wrapping_sub_u32(std::num::wrapping_add_u32(from, low), 1);
-    let span = erase_plan::survey(
-        plans::erase_types(settings, before.known, params),
-        from,
-        last,
-    );
-    let end = if byte_at(s, 40) == 1 {
+fn is_c8(r: &Record, before: Session) -> bool {
+    let low = (r.length % 0x1_0000_0000) as u32;
+    let last = r.address.wrapping_add(low).wrapping_sub(1);
+    let types = plans::erase_types(before.settings, before.known, before.params);
+    let span = erase_plan::survey(types, r.address, last);
+    let end = if r.memory == Memory::Erased {
         last as u64 + 1
     } else {
         span.end
     };
-    let base = span.first as u64;
-    ends_in_page(before, span.first, if base < end { end - base } else { 0 })
+    ends_in_page(before, span.first, end.saturating_sub(span.first as u64))
 }
 
 // ---- read_params
 
-// Where the table starts in the record; past the area all is FF.
-fn table_at(s: &[u8]) -> u16 {
-    let pointer = number_at(s, 140) % 16_777_216;
-    if pointer < 128 {
-        128 + pointer as u16
-    } else {
-        256
+// The size exponent of the type whose two bytes stand at a place of the table.
+fn exponent(table: &[u8], at: usize) -> Option<u8>
+    requires { at < 64 }
+{
+    match (byte_at(table, at), byte_at(table, at + 1)) {
+        (0, _) | (_, 0) => None,
+        (exponent, _) => Some(exponent),
     }
 }
 
-// The number of the four bytes at a place of the table.
-fn table_number(s: &[u8], place: u16) -> u32 {
-    number_at(s, table_at(s) % 512 + place % 64)
-}
-
-// Size exponent and opcode of type i.
-fn pair_at(s: &[u8], i: u16) -> u32 {
-    table_number(s, 28 + 2 * (i % 4)) % 65_536
-}
-
-fn is_type(pair: u32) -> bool {
-    (pair % 256 != 0) & (pair / 256 != 0)
-}
-
-// A size exponent of 32 or more, opcode not 0.
-fn is_s2(s: &[u8], i: u16) -> bool {
-    let pair = pair_at(s, i);
-    is_type(pair) & (32 <= pair % 256)
-}
-
-// The exponent of a type, 256 where there is none.
-fn exponent(s: &[u8], i: u16) -> u32 {
-    let pair = pair_at(s, i);
-    if is_type(pair) { pair % 256 } else { 256 }
-}
-
-fn least(a: u32, b: u32) -> u32 {
-    if a < b { a } else { b }
+fn exponents(area: &[u8]) -> [Option<u8>; 4] {
+    let table = table_of(area);
+    [
+        exponent(table, 28),
+        exponent(table, 30),
+        exponent(table, 32),
+        exponent(table, 34),
+    ]
 }
 
 // Whether two types have the smallest size.
-fn smallest_twice(s: &[u8]) -> bool {
-    let a = exponent(s, 0);
-    let b = exponent(s, 1);
-    let c = exponent(s, 2);
-    let d = exponent(s, 3);
-    let left = least(a, b);
-    let right = least(c, d);
-    let tie = if left < right {
-        a == b
-    } else if right < left {
-        c == d
-    } else {
-        true
-    };
-    tie & (least(left, right) < 256)
+fn is_smallest_twice(area: &[u8]) -> bool {
+    let exponents = exponents(area);
+    match exponents.iter().flatten().min() {
+        Some(least) => 1 < exponents.iter().flatten().filter(|e| *e == least).count(),
+        None => false,
+    }
 }
 
-fn panic_in_params(s: &[u8]) -> u8 {
-    let count = byte_at(s, 139);
-    if count < 9 {
-        return UNLISTED;
+fn panic_in_params(area: &[u8]) -> Class {
+    if byte_at(area, 11) < 9 {
+        return Class::Unlisted;
     }
-    if 0x8000_0040 <= table_number(s, 4) {
-        return S1;
+    if 0x8000_0040 <= dword_at(table_of(area), 2) {
+        return Class::Known(Difference::S1);
     }
-    if is_s2(s, 0) | is_s2(s, 1) | is_s2(s, 2) | is_s2(s, 3) {
-        return S2;
+    if exponents(area).iter().flatten().any(|e| 32 <= *e) {
+        return Class::Known(Difference::S2);
     }
-    given((byte_at(s, 137) == 5) & (count < 16), S3)
+    given(
+        byte_at(area, 9) == 5 && is_table_short(area),
+        Difference::S3,
+    )
 }
 
-fn params_class(s: &[u8]) -> u8 {
-    let count = byte_at(s, 139);
-    let headers = byte_at(s, 134);
-    match byte_at(s, 64) {
-        12 => {
-            if byte_at(s, 135) == 0xFF {
-                given(
-                    headers < std::num::wrapping_add_u8(headers, byte_at(s, 48)),
-                    C11,
-                )
-            } else {
-                S5
-            }
-        }
-        4 => given((6 <= byte_at(s, 137)) & (9 <= count) & (count < 16), S4),
-        PANIC => panic_in_params(s),
-        _ => UNLISTED,
+fn params_class(r: &Record) -> Class {
+    let area = r.area;
+    let headers = byte_at(area, 6);
+    match r.rust.answered.verdict {
+        Verdict::Answer(NO_SFDP) if byte_at(area, 7) == 0xFF => given(
+            headers < headers.wrapping_add(r.more_headers),
+            Difference::C11,
+        ),
+        Verdict::Answer(NO_SFDP) => Class::Known(Difference::S5),
+        Verdict::Answer(INVALID_SFDP_PARAMS) => given(
+            6 <= byte_at(area, 9) && is_table_short(area),
+            Difference::S4,
+        ),
+        Verdict::Panic => panic_in_params(area),
+        _ => Class::Unlisted,
     }
 }
 
 // ---- commands
 
-fn sectors_class(s: &[u8]) -> u8 {
-    let verdict = byte_at(s, 64);
-    if ends_at_top(s) {
-        if number_at(s, 8) == 0 {
-            return given((verdict == 5) & (number_at(s, 68) == 0), C2);
-        }
-        return given(verdict == PANIC, C1);
+fn sectors_class(r: &Record) -> Class {
+    let rust = r.rust.answered;
+    if !ends_at_top(r) {
+        return Class::Unlisted;
     }
-    UNLISTED
+    if r.address == 0 {
+        let is_bad = rust.verdict == Verdict::Answer(INVALID_ADDRESS);
+        return given(is_bad && rust.value == 0, Difference::C2);
+    }
+    given(rust.verdict == Verdict::Panic, Difference::C1)
 }
 
-fn program_class(s: &[u8], before: Session) -> u8 {
-    if byte_at(s, 64) != PANIC {
-        return UNLISTED;
+fn program_class(r: &Record, before: Session) -> Class {
+    if r.rust.answered.verdict != Verdict::Panic {
+        return Class::Unlisted;
     }
-    if ends_at_top(s) {
-        return C3;
+    if ends_at_top(r) {
+        return Class::Known(Difference::C3);
     }
-    given(is_c8(s, before), C8)
+    given(is_c8(r, before), Difference::C8)
 }
 
-fn data_class(s: &[u8], before: Session) -> u8 {
-    let length = number64(s, 12, 16);
-    let panics = byte_at(s, 64) == PANIC;
-    let inside = ends_in_page(before, number_at(s, 8), length);
-    if length == 0 {
-        given(panics & inside, C7)
+fn data_class(r: &Record, before: Session) -> Class {
+    let panics = r.rust.answered.verdict == Verdict::Panic;
+    let difference = if r.length == 0 {
+        Difference::C7
     } else {
-        given(panics & inside, C6)
-    }
-}
-
-fn refused_span(s: &[u8]) -> u8 {
-    let verdict = byte_at(s, 64);
-    if (verdict == PANIC) & ends_at_top(s) {
-        return C3;
-    }
+        Difference::C6
+    };
     given(
-        ((verdict == 5) | (verdict == 8)) & (number_at(s, 76) == 1),
-        C4,
+        panics && ends_in_page(before, r.address, r.length),
+        difference,
     )
 }
 
+fn refused_span(r: &Record) -> Class {
+    match r.rust.answered.verdict {
+        Verdict::Panic if ends_at_top(r) => Class::Known(Difference::C3),
+        Verdict::Answer(INVALID_ADDRESS | ACCESS) => given(r.rust.sent.count == 1, Difference::C4),
+        _ => Class::Unlisted,
+    }
+}
+
 // A reply of another length, that both sides saw and that ended our run.
-fn is_c9(s: &[u8], number: u8, count: u32) -> bool {
-    let at = byte_at(s, 47) as u32;
-    (1 < byte_at(s, 46)) & (number == 8) & (count == at + 1) & (at < number_at(s, 76))
+fn is_c9(r: &Record, ours: &Outcome) -> bool {
+    match r.fault {
+        Some((Fault::Short | Fault::Long, at)) => {
+            ours.answered.verdict == Verdict::Answer(ACCESS)
+                && ours.sent.count == at as u32 + 1
+                && (at as u32) < r.rust.sent.count
+        }
+        _ => false,
+    }
 }
 
 // A run that is not refused at its start.
-fn run_class(s: &[u8], before: Session, a: Alike, number: u8, count: u32) -> u8 {
-    if is_c9(s, number, count) {
-        return C9;
+fn run_class(r: &Record, before: Session, ours: &Outcome, alike: Alike) -> Class {
+    if is_c9(r, ours) {
+        return Class::Known(Difference::C9);
     }
-    if byte_at(s, 64) == STUCK {
-        return given((number == 9) & a.wire & a.settings & a.opcode, C10);
+    if r.rust.answered.verdict == Verdict::Stuck {
+        let is_busy = ours.answered.verdict == Verdict::Answer(BUSY);
+        return given(
+            is_busy && alike.wire && alike.settings && alike.opcode,
+            Difference::C10,
+        );
     }
-    match byte_at(s, 0) {
-        2 => params_class(s),
-        4 => sectors_class(s),
-        5 => program_class(s, before),
-        6 => data_class(s, before),
-        _ => UNLISTED,
+    match r.command {
+        Command::ReadParams => params_class(r),
+        Command::EraseSectors => sectors_class(r),
+        Command::Program => program_class(r, before),
+        Command::ProgramData => data_class(r, before),
+        _ => Class::Unlisted,
     }
 }
 
-fn differs(s: &[u8], r: Ran, a: Alike) -> u8 {
-    let p = r.play;
-    let w = p.wire;
-    let before = r.before;
-    let kind = byte_at(s, 0);
-    let e = p.event;
-    let t = judge::told(e);
-    let ranged = (kind < 2) | ((3 < kind) & (kind < 7));
-    if a.answer & a.wire & a.settings {
-        return given(smallest_twice(s), S7);
+fn differs(r: &Record, before: Session, ours: &Outcome, alike: Alike) -> Class {
+    let is_bad = ours.answered.verdict == Verdict::Answer(INVALID_ADDRESS);
+    if alike.answer && alike.wire && alike.settings {
+        return given(is_smallest_twice(r.area), Difference::S7);
     }
-    if ranged & is_refused(s, before) {
-        if kind != 6 {
-            return given(t.number == 5, range_class(s, before));
+    if r.command.is_ranged() && is_refused(r, before) {
+        if r.command != Command::ProgramData {
+            return if is_bad {
+                range_class(r, before)
+            } else {
+                Class::Unlisted
+            };
         }
-        if 0 < number64(s, 12, 16) {
-            return given(t.number == 5, C5);
+        if 0 < r.length {
+            return given(is_bad, Difference::C5);
         }
     }
-    if ((kind == 4) | (kind == 5)) & is_p2(before) {
-        return P2;
+    match r.command {
+        Command::EraseSectors | Command::Program if is_p2(before) => Class::Known(Difference::P2),
+        Command::Program if is_bad => refused_span(r),
+        _ => run_class(r, before, ours, alike),
     }
-    if (kind == 5) & (t.number == 5) {
-        return refused_span(s);
-    }
-    run_class(s, before, a, t.number, w.count)
 }
 
-pub fn class_of(s: &[u8], r: Ran) -> u8 {
-    if judge::summary(r) != number_at(s, 124) {
-        return WRONG;
+// before: the session that the command starts from.
+pub fn class_of(r: &Record, before: Session, ours: &Outcome) -> Class {
+    if ours.summary() != r.summary {
+        return Class::Wrong;
     }
-    let a = judge::compare(s, r);
-    if a.answer & a.wire & a.settings & a.opcode {
-        SAME
+    let alike = ours.compare(&r.rust);
+    if alike.answer && alike.wire && alike.settings && alike.opcode {
+        Class::Same
     } else {
-        differs(s, r, a)
+        differs(r, before, ours, alike)
     }
 }

@@ -1,132 +1,156 @@
 // Which class a record falls in.
 use crate::fields;
 use dwords::{byte_at, dword_at};
-use sfdp::ReadArea;
-use tallies::{SAME, UNLISTED};
+use sfdp::{FlashParams, SFDPError};
+use std::fmt;
+use tallies::{Known, is_table_short, table_of};
 
-pub const S1: u8 = 1;
-
-pub const S2: u8 = 2;
-
-pub const S3: u8 = 3;
-
-pub const S4: u8 = 4;
-
-pub const S5: u8 = 5;
-
-pub const S6: u8 = 6;
-
-pub const S7: u8 = 7;
-
-// S6 and S7.
-pub const BOTH: u8 = 8;
-
-// The number that the Rust's outcome has in a record: None stands for 12, 255 for a panic.
-fn rust_number(verdict: u8) -> u8 {
-    if verdict == 1 { 12 } else { verdict }
+// Where the Rust is known to part from docs/SCOPE.md.
+#[derive(Clone, Copy)]
+pub enum Difference {
+    S1,
+    S2,
+    S3,
+    S4,
+    S5,
+    S6,
+    S7,
+    S6AndS7,
 }
 
-// The bytes of the table, from the first parameter header's pointer on.
-fn table(area: &[u8]) -> &[u8] {
-    let low = byte_at(area, 12) as usize;
-    let middle = byte_at(area, 13) as usize;
-    let high = byte_at(area, 14) as usize;
-    let at = low + 256 * middle + 65536 * high;
-    if at < area.len() {
-        &area[at..]
-    } else {
-        let n = area.len();
-        &area[n..]
+pub const DIFFERENCES: [Difference; 8] = [
+    Difference::S1,
+    Difference::S2,
+    Difference::S3,
+    Difference::S4,
+    Difference::S5,
+    Difference::S6,
+    Difference::S7,
+    Difference::S6AndS7,
+];
+
+impl fmt::Display for Difference {
+    fn fmt<W: fmt::Write>(&self, f: &mut fmt::Formatter<W>) -> fmt::Result {
+        f.write_str(match self {
+            Difference::S1 => "S1 density exponent, the Rust panics",
+            Difference::S2 => "S2 size exponent, the Rust panics",
+            Difference::S3 => "S3 minor 5 and a short table, the Rust panics",
+            Difference::S4 => "S4 minor 6 or more and a short table, the Rust refuses",
+            Difference::S5 => "S5 access protocol, the Rust refuses",
+            Difference::S6 => "S6 several volatility bits",
+            Difference::S7 => "S7 a tie in the smallest type",
+            Difference::S6AndS7 => "S6 and S7",
+        })
     }
 }
 
-fn short_table(area: &[u8]) -> bool {
-    let n = byte_at(area, 11);
-    if 9 <= n { n < 16 } else { false }
+impl Known for Difference {
+    fn place(self) -> usize {
+        self as usize
+    }
+}
+
+pub type Class = tallies::Class<Difference>;
+
+// What an area comes to: the parameters, an answer without them, or the Rust's panic.
+#[derive(Clone, Copy, PartialEq, Eq)]
+enum Outcome {
+    Params,
+    NoSFDP,
+    InvalidSFDPHeader,
+    InvalidSFDPParams,
+    Panic,
+}
+
+// The number that a record has for it. The Rust's None has a number of its own beside docs/SCOPE.md's.
+impl TryFrom<u8> for Outcome {
+    type Error = ();
+
+    fn try_from(number: u8) -> Result<Outcome, ()> {
+        match number {
+            0 => Ok(Outcome::Params),
+            1 | 12 => Ok(Outcome::NoSFDP),
+            3 => Ok(Outcome::InvalidSFDPHeader),
+            4 => Ok(Outcome::InvalidSFDPParams),
+            255 => Ok(Outcome::Panic),
+            _ => Err(()),
+        }
+    }
+}
+
+impl From<Result<FlashParams, SFDPError>> for Outcome {
+    fn from(read: Result<FlashParams, SFDPError>) -> Outcome {
+        match read {
+            Ok(_) => Outcome::Params,
+            Err(SFDPError::NoSFDP) => Outcome::NoSFDP,
+            Err(SFDPError::InvalidSFDPHeader) => Outcome::InvalidSFDPHeader,
+            Err(SFDPError::InvalidSFDPParams) => Outcome::InvalidSFDPParams,
+        }
+    }
 }
 
 // A panic of the Rust: too large an exponent that we refuse by 4, or a short table of minor 5 that we accept.
-fn panicked(area: &[u8], ours: u8) -> u8 {
-    let d2 = dword_at(table(area), 2);
-    if ours == 0 {
-        if short_table(area) {
-            if byte_at(area, 9) == 5 {
-                return S3;
-            }
+fn panicked(area: &[u8], ours: Outcome) -> Class {
+    match ours {
+        Outcome::Params if is_table_short(area) && byte_at(area, 9) == 5 => {
+            Class::Known(Difference::S3)
         }
-        return UNLISTED;
-    }
-    if ours == 4 {
-        if 0x8000_0040 <= d2 {
-            return S1;
+        Outcome::InvalidSFDPParams if 0x8000_0040 <= dword_at(table_of(area), 2) => {
+            Class::Known(Difference::S1)
         }
-        return S2;
+        Outcome::InvalidSFDPParams => Class::Known(Difference::S2),
+        _ => Class::Unlisted,
     }
-    UNLISTED
 }
 
-// The Rust refuses what we accept.
-fn refused(area: &[u8], rust: u8, ours: u8) -> u8 {
-    if rust == 12 {
-        if byte_at(area, 7) == 255 {
-            return UNLISTED;
-        }
-        return S5;
+// Another answer of the Rust: it refuses what we accept.
+fn refused(area: &[u8], rust: Outcome, ours: Outcome) -> Class {
+    match (rust, ours) {
+        (Outcome::NoSFDP, _) if byte_at(area, 7) != 255 => Class::Known(Difference::S5),
+        (Outcome::InvalidSFDPParams, Outcome::Params)
+            if is_table_short(area) && 6 <= byte_at(area, 9) => { Class::Known(Difference::S4) }
+        _ => Class::Unlisted,
     }
-    if rust == 4 {
-        if ours == 0 {
-            if short_table(area) {
-                if 6 <= byte_at(area, 9) {
-                    return S4;
-                }
-            }
-        }
-    }
-    UNLISTED
 }
 
 // Both give parameters.
-fn compared(vol: bool, tie: bool, rest: bool) -> u8 {
-    if rest {
-        if vol {
-            if tie { SAME } else { S7 }
-        } else if tie {
-            S6
-        } else {
-            BOTH
-        }
-    } else {
-        UNLISTED
+fn compared(volatility: bool, sector: bool, rest: bool) -> Class {
+    match (rest, volatility, sector) {
+        (false, _, _) => Class::Unlisted,
+        (true, true, true) => Class::Same,
+        (true, true, false) => Class::Known(Difference::S7),
+        (true, false, true) => Class::Known(Difference::S6),
+        (true, false, false) => Class::Known(Difference::S6AndS7),
     }
 }
 
 // area: an SFDP area; want: the 128 bytes that a record says of it.
-fn class_of_area(area: &[u8], want: &[u8]) -> u8 {
+fn class_of_area(area: &[u8], want: &[u8]) -> Class {
     let read = sfdp::read_area(area);
-    let ours = read.number();
-    let rust = rust_number(byte_at(want, 0));
-    if rust == 255 {
+    let ours = Outcome::from(read);
+    let Ok(rust) = Outcome::try_from(byte_at(want, 0)) else {
+        return Class::Unlisted;
+    };
+    if rust == Outcome::Panic {
         return panicked(area, ours);
     }
-    if rust == ours {
-        match read {
-            ReadArea::Params(p) => compared(
-                fields::same_volatility(p, want),
-                fields::same_sector(p, want),
-                fields::same(p, want),
-            ),
-            _ => SAME,
-        }
-    } else {
-        refused(area, rust, ours)
+    if rust != ours {
+        return refused(area, rust, ours);
+    }
+    match read {
+        Ok(p) => compared(
+            fields::same_volatility(p, want),
+            fields::same_sector(p, want),
+            fields::same(p, want),
+        ),
+        Err(_) => Class::Same,
     }
 }
 
 // A record: an area, and 128 bytes that say what it holds.
-pub fn class_of(s: &[u8]) -> u8 {
-    if s.len() < 128 {
-        return UNLISTED;
+pub fn class_of(record: &[u8]) -> Class {
+    match record.split_last_chunk::<128>() {
+        Some((area, want)) => class_of_area(area, want),
+        None => Class::Unlisted,
     }
-    let n = s.len() - 128;
-    class_of_area(&s[0..n], &s[n..])
 }

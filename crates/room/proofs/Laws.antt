@@ -10,8 +10,9 @@ use lib.Dec.{leb, eqb}
 use lib.ListN.{length, take, drop}
 use lib.Seq.{paste, length-paste, take-length, take-nil, take_at, drop_at, length-take-le, take-append-le, take-take, drop-drop}
 use Rattle.commands.specs.Script.{over}
+use Rattle.std.specs.Prelude.{None, Some}
+use Rattle.std.proofs.lemmas.Option.{none-some}
 use Rattle.room.specs.Room.{laid, differs_from}
-use Rattle.room.specs.declared.Differs.TheVariants.{Same, At}
 
 -- ---- bytes laid over the room
 -- over the room, where they fit
@@ -93,7 +94,7 @@ part_laid at bytes room h = rw (laid_fits at bytes room h) (part_over at bytes r
 
 -- ---- the first difference
 -- nothing to compare, equal heads, and heads that differ
-pub differs_nil : (i : ℕ) (l : List ℕ) → differs_from i l [] ≡ Same
+pub differs_nil : (i : ℕ) (l : List ℕ) → differs_from i l [] ≡ None
 unfolding differs_from
 differs_nil i [] = refl
 differs_nil i (x ∷ l) = refl
@@ -102,7 +103,7 @@ pub differs_eq : (i x y : ℕ) (l r : List ℕ) → x ≡ y → differs_from i (
 unfolding differs_from
 differs_eq i x y l r h = rw (differs_from, eq-eqb x y h)
 
-pub differs_ne : (i x y : ℕ) (l r : List ℕ) → (x ≡ y → ⊥) → differs_from i (x ∷ l) (y ∷ r) ≡ At i x y
+pub differs_ne : (i x y : ℕ) (l r : List ℕ) → (x ≡ y → ⊥) → differs_from i (x ∷ l) (y ∷ r) ≡ Some (record { at = i; has = x; read = y })
 unfolding differs_from
 differs_ne i x y l r h = rw (differs_from, ne_eqb x y h)
 
@@ -113,20 +114,17 @@ equal_or_not x y = go (eqb x y) refl
     go true e = inl (eqb-true x y e)
     go false e = inr (eqb-false x y e)
 
-never_at : {A : Type 0} (i x y : ℕ) → At i x y ≡ Same → A
-never_at i x y h = let z : ◌≡◌ {A = ℕ} 0 1 = cc in absurd (omega arith)
-
 -- no difference is found exactly if the two agree on the part that both have
-pub differs_same : (i : ℕ) (l r : List ℕ) → differs_from i l r ≡ Same → take (length r) l ≡ take (length l) r
+pub differs_same : (i : ℕ) (l r : List ℕ) → differs_from i l r ≡ None → take (length r) l ≡ take (length l) r
 differs_same i [] r h = take-nil (length r)
 differs_same i (x ∷ l) [] h = refl
 differs_same i (x ∷ l) (y ∷ r) h =
     ⊎_elim
     (λ (e : x ≡ y). rw (e, differs_same (suc i) l r (sym (differs_eq i x y l r e) ∙ h)))
-    (λ (n : x ≡ y → ⊥). never_at i x y (sym (differs_ne i x y l r n) ∙ h))
+    (λ (n : x ≡ y → ⊥). absurd (none-some _ (sym h ∙ differs_ne i x y l r n)))
     (equal_or_not x y)
 
-pub same_differs : (i : ℕ) (l r : List ℕ) → take (length r) l ≡ take (length l) r → differs_from i l r ≡ Same
+pub same_differs : (i : ℕ) (l r : List ℕ) → take (length r) l ≡ take (length l) r → differs_from i l r ≡ None
 unfolding differs_from
 same_differs i [] r h = refl
 same_differs i (x ∷ l) [] h = refl

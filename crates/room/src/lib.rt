@@ -1,38 +1,37 @@
 // The lent room: bytes laid over it, compared with others, and the all-FF test.
 #![tactic(auto)]
 
-ghost use Rattle.std.specs.Prelude.{◌≡◌, ◌+◌, ◌≤◌, min, length, take, drop};
+ghost use Rattle.std.specs.Prelude.{◌≡◌, ◌+◌, ◌≤◌, length, take, drop};
 ghost use Rattle.commands.specs.Script.{over};
 ghost use Rattle.commands.specs.Commands.{blank};
 ghost use Rattle.room.specs.Room.{laid, differs_from, part_of};
 
-// The first place in which the room differs, with what the room has there and what was read.
+// A place in which the room differs from what was read: how far into the room it is, what the room has there, and what was read.
 #[derive(Clone, Copy)]
-pub enum Differs {
-    Same,
-    At(u64, u8, u8),
+pub struct Difference {
+    pub at: u64,
+    pub has: u8,
+    pub read: u8,
 }
 
-// Copies bytes that fit.
+// Copies bytes that fit. By index: `copy_from_slice` of a length that is not known calls memmove, and the archive takes memcpy and memset
+// of the C library alone (docs/MANUAL.md).
 fn copy_at(room: &mut [u8], at: usize, bytes: &[u8])
     requires { at + length bytes.now ≤ length room.old }
     ensures { room.new ≡ over at bytes.now room.old }
 {
-    let mut done = 0;
-    while done < bytes.len() {
-        room[at + done] = bytes[done];
-        done += 1;
+    for (i, byte) in bytes.iter().enumerate() {
+        room[at + i] = *byte;
     }
 }
 
 // Lays bytes over the room from a place on, where they fit; else changes nothing.
+#[tactic(auto, using(crate::proofs::Laws::laid_not))]
 pub fn lay(room: &mut [u8], at: u64, bytes: &[u8])
     ensures { room.new ≡ laid at bytes.now room.old }
 {
-    if bytes.len() <= room.len() {
-        if at <= (room.len() - bytes.len()) as u64 {
-            copy_at(room, at as usize, bytes);
-        }
+    if bytes.len() <= room.len() && at <= (room.len() - bytes.len()) as u64 {
+        copy_at(room, at as usize, bytes);
     }
 }
 
@@ -40,56 +39,17 @@ pub fn lay(room: &mut [u8], at: u64, bytes: &[u8])
 fn part(room: &[u8], from: u64, len: u64) -> &[u8]
     ensures { result.now ≡ take len (drop from room.now) }
 {
-    let n = room.len();
-    if n as u64 <= from {
-        return &room[n..n];
-    }
-    let at = from as usize;
-    if len <= (n - at) as u64 {
-        let end = at + len as usize;
-        return &room[at..end];
-    }
-    &room[at..n]
+    let rest = &room[room.len().min(from as usize)..];
+    &rest[..rest.len().min(len as usize)]
 }
 
-// Whether the eight bytes from a place on are FF: they are taken as one number.
-fn eight_ff(part: &[u8], i: usize) -> bool
-    requires { i + 8 ≤ length part.now }
-    ensures { result ≡ blank (take 8 (drop i part.now)) }
-{
-    let low = dwords::number(part[i], part[i + 1], part[i + 2], part[i + 3]);
-    let high = dwords::number(part[i + 4], part[i + 5], part[i + 6], part[i + 7]);
-    low as u64 + 4_294_967_296 * (high as u64) == 0xffff_ffff_ffff_ffff
-}
-
-// Whether the bytes from a place on are FF.
-fn rest_ff(part: &[u8], from: usize) -> bool
-    requires { from ≤ length part.now }
-    ensures { result ≡ blank (drop from part.now) }
-{
-    let mut i = from;
-    while i < part.len() {
-        if part[i] != 0xff {
-            return false;
-        }
-        i += 1;
-    }
-    true
-}
-
-// Whether all bytes are FF: eight at a time, then those that are left.
+// Whether all bytes are FF: eight at a time, as one number, then those that are left.
 fn all_ff(part: &[u8]) -> bool
     ensures { result ≡ blank part.now }
 {
-    let mut i = 0;
-    while 8 <= part.len() - i {
-        if eight_ff(part, i) {
-            i += 8;
-        } else {
-            return false;
-        }
-    }
-    rest_ff(part, i)
+    let (eights, rest) = part.as_chunks::<8>();
+    eights.iter().all(|eight| u64::from_le_bytes(*eight) == 0xffff_ffff_ffff_ffff)
+        && rest.iter().all(|byte| *byte == 0xff)
 }
 
 // Whether a part of the room is all FF.
@@ -99,45 +59,33 @@ pub fn is_blank(room: &[u8], from: u64, len: u64) -> bool
     all_ff(part(room, from, len))
 }
 
-fn shorter(a: usize, b: usize) -> usize
-    ensures { result ≡ min a b }
-{
-    if a <= b { a } else { b }
-}
-
 // The first place in which a part and the reply differ, up to the shorter.
-fn compare(part: &[u8], reply: &[u8]) -> Differs
+fn compare(part: &[u8], reply: &[u8]) -> Option<Difference>
     ensures { result ≡ differs_from 0 part.now reply.now }
 {
-    let end = shorter(part.len(), reply.len());
-    let mut i = 0;
-    while i < end {
-        if part[i] != reply[i] {
-            return Differs::At(i as u64, part[i], reply[i]);
-        }
-        i += 1;
-    }
-    Differs::Same
+    let i = part.iter().zip(reply).position(|(has, read)| has != read)?;
+    Some(Difference {
+        at: i as u64,
+        has: part[i],
+        read: reply[i],
+    })
 }
 
 // Compares the first n bytes of the room, all of it if n is larger, with the reply, up to the shorter.
-pub fn first_differs(room: &[u8], n: u64, reply: &[u8]) -> Differs
+pub fn first_differs(room: &[u8], n: u64, reply: &[u8]) -> Option<Difference>
     ensures { result ≡ differs_from 0 (take n room.now) reply.now }
 {
     compare(part(room, 0, n), reply)
 }
 
 // The payload of a transaction: a part of the lent room itself; nothing where it does not fit.
+#[tactic(auto, unfolding(crate::specs::Room::part_of))]
 pub fn payload(room: &[u8], from: u32, len: u64) -> &[u8]
     ensures { result.now ≡ part_of room.now from len }
 {
     let at = from as usize;
-    if at <= room.len() {
-        if len <= (room.len() - at) as u64 {
-            let end = at + len as usize;
-            return &room[at..end];
-        }
+    if at <= room.len() && len <= (room.len() - at) as u64 {
+        return &room[at..at + len as usize];
     }
-    let n = room.len();
-    &room[n..n]
+    &[]
 }

@@ -1,30 +1,30 @@
 -- Where a command goes on: the next phase meets the rule, with the polls so far.
+use Rattle.std.proofs.Common.{Some, None, Option, Result, Ok as Read, Err as Unread}
 use Prim.Native.Nat.{ℕ, zero, suc, ◌+◌, ◌-◌, ◌*◌, ◌%◌, ◌^◌, ◌≤◌, ◌<◌}
 use mathlib.Core.Path.{◌≡◌, refl}
 use mathlib.Core.Bool.{Bool, true, false, cond}
 use mathlib.Core.List.{List, [], ◌∷◌}
-use mathlib.Core.Option.{Option, some, none}
 use native.Mathlib.Omega.{arith}
 use native.Mathlib.Nat.{mod-eq_of_lt, mod-lt}
 use lib.Dec.{eqb, ltb}
 use lib.ListN.{length, take, drop, length-take}
 use borrow.Author.Tests.{ltb-true, leb-true, eqb-true, le-leb, lt-ltb, ne_eqb}
+use Rattle.sfdp.specs.declared.FlashParams.{FlashParams}
+use Rattle.sfdp.specs.declared.SFDPParameterHeader.{SFDPParameterHeader}
+use Rattle.sfdp.specs.declared.SFDPError.{SFDPError}
+use Rattle.sfdp.specs.declared.SFDPError.TheVariants as Refusal
 use Rattle.dwords.specs.Dwords.{byte_at}
 use Rattle.sfdp.specs.Jesd216.{signed, basic, parameter_header, read_header, read_table}
-use Rattle.sfdp.specs.declared.ReadHeader.{ReadHeader}
-use Rattle.sfdp.specs.declared.ReadHeader.TheVariants as OfHeader
-use Rattle.sfdp.specs.declared.ReadParams.{ReadParams}
-use Rattle.sfdp.specs.declared.ReadParams.TheVariants as OfTable
 use Rattle.settings.specs.Limits.{page_of}
 use Rattle.settings.proofs.Laws.{accepted_nonempty, accepted_32, accepted_inside, update_sound}
-use Rattle.erase_plan.specs.declared.Next.{Next}
-use Rattle.erase_plan.specs.declared.Next.TheVariants.{Nothing, Entry}
+use Rattle.erase_plan.specs.declared.NextEntry.{NextEntry}
 use Rattle.erase_plan.proofs.Lists.{by_cond}
 use Rattle.erase_plan.proofs.Ordering.{present_present}
 use Rattle.erase_plan.proofs.Steps.{plan_entry}
 use Rattle.plans.specs.Available.{available}
+use Rattle.commands.specs.Answers.{refusal_of}
 use Rattle.commands.specs.declared.Answer.{Answer}
-use Rattle.commands.specs.declared.Answer.TheVariants.{Done, DoneBool, ReadbackError, InvalidSFDPHeader, InvalidSFDPParams, Busy, NoSFDP}
+use Rattle.commands.specs.declared.Answer.TheVariants.{Done, DoneBool, ReadbackError, Busy}
 use Rattle.commands.specs.Transactions.{ready}
 use Rattle.commands.specs.Commands.{blank, id_at, first_id}
 use Rattle.phases.specs.declared.Job.{Job}
@@ -122,15 +122,15 @@ module _ (s : Session) (sound : settings_rule s.settings ≡ true) where
       (λ t. to_after_lem J h)
 
   -- ---- an erase is done
-  over_erase : (last : ℕ) (o : Next) (on : ℕ → Phase) (over' : Phase) (n : ℕ)
-      → ((e : _) (stop : ℕ) → o ≡ Entry e stop → stop < last → Ok s n (on (stop + 1))) → Ok s n over' → Ok s n (next_erase o last on over')
+  over_erase : (last : ℕ) (o : Option NextEntry) (on : ℕ → Phase) (over' : Phase) (n : ℕ)
+      → ((e : _) (stop : ℕ) → o ≡ Some (record { entry = e; stop = stop }) → stop < last → Ok s n (on (stop + 1))) → Ok s n over' → Ok s n (next_erase o last on over')
   unfolding next_erase
-  over_erase last Nothing on over' n f g = g
-  over_erase last (Entry e stop) on over' n f g = by_cond (Ok s n) (ltb stop last) (on (stop + 1)) over' (λ t. f e stop refl (ltb-true stop last t)) (λ t. g)
+  over_erase last None on over' n f g = g
+  over_erase last (Some x) on over' n f g = by_cond (Ok s n) (ltb x.stop last) (on (x.stop + 1)) over' (λ t. f x.entry x.stop refl (ltb-true x.stop last t)) (λ t. g)
 
-  entry_at : (p last : ℕ) (e : _) (stop : ℕ) → entry_for s p last ≡ Entry e stop → p ≤ stop
+  entry_at : (p last : ℕ) (e : _) (stop : ℕ) → entry_for s p last ≡ Some (record { entry = e; stop = stop }) → p ≤ stop
   unfolding entry_for
-  entry_at p last e stop h = (plan_entry (types_of s) (present_present (available s.settings s.known s.params)) p (last + 1) e stop h).after
+  entry_at p last e stop h = (plan_entry (types_of s) (present_present (available s.settings s.known s.params)) p (last + 1) _ h).after
 
   next_sector : (p last n left : ℕ) → erase_rule s.settings (has_types s) (Erases.Sectors p last) ≡ true
       → polls_left n s.settings.poll_limit (erases_behind (Erases.Sectors p last)) left ≡ true
@@ -328,8 +328,8 @@ module _ (s : Session) (sound : settings_rule s.settings ≡ true) where
 
   -- ---- verify: the byte that differs lies in the span
   abbrev Told : Job → Option Mismatch → Type 0
-  Told J none = Unit {0}
-  Told J (some m) = differs_rule J m.address m.wrote m.read ≡ true
+  Told J None = Unit {0}
+  Told J (Some m) = differs_rule J m.address m.wrote m.read ≡ true
 
   differs_in : (J : Job) (i : ℕ) (l r : List ℕ) → J.verified ≡ true → J.base + i + length l ≤ J.top + 1 → J.top < 2 ^ 32 → Told J (first_differs J.base i l r)
   unfolding first_differs differs_rule
@@ -341,15 +341,15 @@ module _ (s : Session) (sound : settings_rule s.settings ≡ true) where
       at_is = mod-eq_of_lt (omega arith)
 
       on : (b : Bool) → eqb x y ≡ b → Told J (first_differs J.base (suc i) l r)
-          → Told J (elim b [ true ↦ first_differs J.base (suc i) l r | false ↦ some (record { address = (J.base + i) % 2 ^ 32; wrote = x; read = y }) ])
+          → Told J (elim b [ true ↦ first_differs J.base (suc i) l r | false ↦ Some (record { address = (J.base + i) % 2 ^ 32; wrote = x; read = y }) ])
       on true e k = k
       on false e k = hold _ (v, (rw e refl, rw at_is (omega (arith, le-leb))))
 
   judged_ok : (J : Job) (n : ℕ) (x : Option Mismatch) → job_rule s.settings J ≡ true → polls_done n s.settings.poll_limit (J.last + 1 - J.from + span_of J) ≡ true → Told J x
       → Ok s n (judged J x)
   unfolding judged phase_rule verify_rule polls_rule verifies_behind program_ends
-  judged_ok J n none j k d = program_end n J Done true (job_order s.settings J j) refl (done_ended n s.settings.poll_limit (J.last + 1 - J.from + span_of J) k limits.1)
-  judged_ok J n (some m) j k d = record { phase = hold _ (j, (d, tt)); polls = k }
+  judged_ok J n None j k d = program_end n J Done true (job_order s.settings J j) refl (done_ended n s.settings.poll_limit (J.last + 1 - J.from + span_of J) k limits.1)
+  judged_ok J n (Some m) j k d = record { phase = hold _ (j, (d, tt)); polls = k }
 
   pub verify_on_lem : (c : VerifyCommand) (n : ℕ) (r room : List ℕ) → verify_rule s.settings c ≡ true → polls_done n s.settings.poll_limit (verifies_behind c) ≡ true → Ok s n (verify_on c r room)
   unfolding verify_on verify_rule verifies_behind program_ends
@@ -403,16 +403,21 @@ module _ (s : Session) (sound : settings_rule s.settings ≡ true) where
   unfolding phase_rule polls_rule
   reading c h = in_phase_lem 0 (Reading c) (record { phase = h; polls = refl })
 
-  abbrev Small : ReadHeader → Type 0
-  Small OfHeader.NoSFDP = Unit {0}
-  Small OfHeader.InvalidSFDPHeader = Unit {0}
-  Small (OfHeader.Header h) = table_rule h.minor h.plen h.ptp ≡ true
+  told_lem : (e : SFDPError) → other_ends (refusal_of e) ≡ true
+  unfolding other_ends
+  told_lem Refusal.NoSFDP = refl
+  told_lem Refusal.InvalidSFDPHeader = refl
+  told_lem Refusal.InvalidSFDPParams = refl
+
+  abbrev Small : Result SFDPParameterHeader SFDPError → Type 0
+  Small (Unread e) = Unit {0}
+  Small (Read h) = table_rule h.minor h.plen h.ptp ≡ true
 
   header_small : (r : List ℕ) → Bytes r → Small (read_header r)
   unfolding read_header parameter_header table_rule
   header_small r b =
-      by_cond Small (signed r) (cond (basic (parameter_header r 8)) (OfHeader.Header (parameter_header r 8)) OfHeader.InvalidSFDPHeader) OfHeader.NoSFDP
-      (λ t. by_cond Small (basic (parameter_header r 8)) (OfHeader.Header (parameter_header r 8)) OfHeader.InvalidSFDPHeader
+      by_cond Small (signed r) (cond (basic (parameter_header r 8)) (Read (parameter_header r 8)) (Unread Refusal.InvalidSFDPHeader)) (Unread Refusal.NoSFDP)
+      (λ t. by_cond Small (basic (parameter_header r 8)) (Read (parameter_header r 8)) (Unread Refusal.InvalidSFDPHeader)
       (λ u.
       let x : byte_at r 12 < 256 = b.below 12 in
       let y : byte_at r 13 < 256 = b.below 13 in
@@ -421,16 +426,15 @@ module _ (s : Session) (sound : settings_rule s.settings ≡ true) where
       (λ u. tt))
       (λ t. tt)
 
-  headed : (h : ReadHeader) → Small h → rule_of (goes s 0 (with_header h)) ≡ true
+  headed : (h : Result SFDPParameterHeader SFDPError) → Small h → rule_of (goes s 0 (with_header h)) ≡ true
   unfolding with_header read_rule other_ends
-  headed OfHeader.NoSFDP o = read_ended NoSFDP refl
-  headed OfHeader.InvalidSFDPHeader o = read_ended InvalidSFDPHeader refl
-  headed (OfHeader.Header h) o = reading (Reads.Table h.minor h.plen h.ptp) o
+  headed (Unread e) o = read_ended (refusal_of e) (told_lem e)
+  headed (Read h) o = reading (Reads.Table h.minor h.plen h.ptp) o
 
-  tabled : (minor plen : ℕ) (r : List ℕ) (t : ReadParams) → read_table minor plen r ≡ t → rule_of (with_table s 0 t) ≡ true
+  tabled : (minor plen : ℕ) (r : List ℕ) (t : Result FlashParams SFDPError) → read_table minor plen r ≡ t → rule_of (with_table s 0 t) ≡ true
   unfolding with_table rule_of phase_rule polls_rule end_rule other_ends
-  tabled minor plen r OfTable.InvalidSFDPParams e = read_ended InvalidSFDPParams refl
-  tabled minor plen r (OfTable.Params p) e =
+  tabled minor plen r (Unread x) e = read_ended (refusal_of x) (told_lem x)
+  tabled minor plen r (Read p) e =
       hold _ (sound_settings _ (update_sound s.settings (settings_sound s.settings sound) minor plen r p e), (refl, (refl, tt)))
 
   id_ends : (more n : ℕ) (r : List ℕ) → other_ends (first_id more n r) ≡ true

@@ -1,6 +1,7 @@
 -- Sessions that meet the rule, and sessions that do not.
+use Rattle.std.proofs.Common.{Some}
 use mathlib.Core.Path.{◌≡◌, refl}
-use mathlib.Core.Bool.{true, false}
+use mathlib.Core.Bool.{false}
 use mathlib.Core.List.{[], ◌∷◌}
 use lib.ListN.{replicate}
 use Rattle.settings.specs.Limits.{with_poll_limit}
@@ -41,7 +42,7 @@ refusal_stored = refl
 
 -- docs/SCOPE.md's whole list: its settings, and its program, which runs
 listed : Session
-listed = with_settings fresh (record { address_bytes = 3; capacity_set = true; capacity = 1024; page_size = 256; erase_size = 256; erase_opcode = 0x20; poll_limit = 65535 })
+listed = with_settings fresh (record { address_bytes = 3; capacity = Some 1024; page_size = 256; erase_size = 256; erase_opcode = 0x20; poll_limit = 65535 })
 
 listed_rule : Ruled listed
 unfolding listed rule_of all settings_rule phase_rule end_rule other_ends polls_rule

@@ -1,6 +1,7 @@
--- The parameters of a table of bytes, and those that stand for none, are within their widths.
+-- The parameters of a table of bytes are within their widths.
+use Rattle.std.proofs.Common.{Ok}
 use Prim.Native.Nat.{ℕ, ◌*◌, ◌^◌, ◌≤◌, ◌<◌}
-use mathlib.Core.Path.{◌≡◌, refl}
+use mathlib.Core.Path.{◌≡◌}
 use mathlib.Core.Bool.{Bool, true, false, cond}
 use mathlib.Core.Logic.{⊎_elim}
 use mathlib.Core.List.{List}
@@ -9,16 +10,13 @@ use native.Mathlib.Nat.{pow-le-pow_right}
 use lib.ListN.{get_or}
 use Rattle.dwords.specs.Dwords.{dword, bits, bit}
 use Rattle.dwords.proofs.Bytes.{bits_below, dword_below}
-use Rattle.sfdp.specs.Jesd216.{no_type, erase_types, timing, raw_times, density, extended, fields, params, no_params, sizes_fit, size_fits, accepted, read_table}
+use Rattle.sfdp.specs.Jesd216.{no_type, erase_types, timing, raw_times, density, extended, fields, params, sizes_fit, accepted, read_table}
 use Rattle.sfdp.specs.declared.SFDPEraseInst.{SFDPEraseInst}
 use Rattle.sfdp.specs.declared.FlashParams.{FlashParams}
-use Rattle.sfdp.specs.declared.ReadParams.TheVariants.{Params}
 use Rattle.sfdp.proofs.Laws.{sizes_8, sizes_9, dense}
 use Rattle.sfdp.proofs.Bounds.{Between, RawBelow, raw_below, TimesWithin, times_within, Sized, size_between, Place, Places, types_placed, density_between, table_params}
+use Rattle.packed.proofs.Places.{inst_none}
 use Rattle.packed.specs.Typed.{U8, U32, U64, TypedInst, TypedInsts, TypedTiming, TypedRaw, TypedParams}
-
-none_typed : TypedInst no_type
-none_typed = record { opcode = omega arith; size = omega arith; time_typ = omega arith; time_max = omega arith; time_raw = omega arith }
 
 sized_typed : (i : SFDPEraseInst) → Sized i → TypedInst i
 sized_typed i z =
@@ -28,7 +26,7 @@ sized_typed i z =
     record { opcode = omega (arith, z.code.to); size = omega (arith, b.to); time_typ = omega arith; time_max = omega arith; time_raw = omega (arith, z.raw) }
 
 pub inst_typed : (i : SFDPEraseInst) → Place i → TypedInst i
-inst_typed i p = ⊎_elim (λ (e : i ≡ no_type). rw e none_typed) (λ (z : Sized i). sized_typed i z) p
+inst_typed i p = ⊎_elim (λ (e : i ≡ no_type). rw e inst_none) (λ (z : Sized i). sized_typed i z) p
 
 timing_typed : (known : Bool) (d10 d11 : ℕ) → TypedTiming (timing known d10 d11)
 unfolding timing
@@ -98,11 +96,7 @@ fields_typed minor known d1 d2 d8 d9 d10 d11 d14 d16 hm hd h8 h9 = record {
   page_size = page_typed known d11;
 }
 
-pub no_params_typed : TypedParams no_params
-unfolding density sizes_fit size_fits
-no_params_typed = fields_typed 0 false 0 0 0 0 0 0 0 0 (omega arith) (omega arith) refl refl
-
-pub table_typed : (minor n : ℕ) (t : List ℕ) (p : FlashParams) → ((i : ℕ) → get_or t i 0 < 256) → U8 minor → read_table minor n t ≡ Params p → TypedParams p
+pub table_typed : (minor n : ℕ) (t : List ℕ) (p : FlashParams) → ((i : ℕ) → get_or t i 0 < 256) → U8 minor → read_table minor n t ≡ Ok p → TypedParams p
 unfolding params
 table_typed minor n t p bytes m h =
     let q : (accepted n t ≡ true) × (p ≡ params minor n t) = table_params minor n t p h in

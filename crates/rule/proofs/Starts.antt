@@ -1,4 +1,5 @@
 -- The starts and the setters hand back sessions that meet the rule.
+use Rattle.std.proofs.Common.{Result, Ok as Read, Err as Unread}
 use Prim.Native.Nat.{ℕ, ◌+◌, ◌-◌, ◌≤◌, ◌<◌}
 use mathlib.Core.Path.{◌≡◌, refl, ap, subst}
 use mathlib.Core.Bool.{Bool, true, false, not, ◌&&◌, ◌||◌}
@@ -8,13 +9,10 @@ use lib.Dec.{eqb, ltb, leb}
 use lib.ListN.{length}
 use borrow.Author.Tests.{ltb-true, eqb-false, le-leb, lt-ltb, not-true}
 use Rattle.settings.specs.declared.Settings.{Settings}
-use Rattle.settings.specs.declared.SetAnswer.{SetAnswer}
-use Rattle.settings.specs.declared.SetAnswer.TheVariants.{Set, BadSetting as Refused}
+use Rattle.settings.specs.declared.SettingError.{SettingError}
 use Rattle.settings.specs.Limits.{Sound, set_address_bytes, set_page_size, set_erase_size, set_poll_limit, set_capacity, clear_capacity, set_erase_opcode}
 use Rattle.settings.specs.Ranges.{accepted_range, last_address}
 use Rattle.settings.proofs.Laws.{accepted_nonempty, new_sound, set_address_bytes_sound, set_page_size_sound, set_erase_size_sound, set_poll_limit_sound, set_capacity_sound, clear_capacity_sound, set_erase_opcode_sound}
-use Rattle.erase_plan.specs.declared.SpanCheck.{SpanCheck}
-use Rattle.erase_plan.specs.declared.SpanCheck.TheVariants as Span
 use Rattle.erase_plan.specs.Plan.{plan}
 use Rattle.erase_plan.specs.Span.{span_start, span_end, survey_of, span_check}
 use Rattle.erase_plan.proofs.Lists.{by_cond, no_true}
@@ -82,9 +80,9 @@ module _ (s : Session) (h : Ruled s) where
   unfolding have_types
   have_types_lem x f = by_cond Fine (eqb (length (types_of s)) 0) (refused s NoEraseInstruction) x (λ t. h) (λ t. f (types_there (length (types_of s)) t))
 
-  span_fits_lem : (o : SpanCheck) (x : Stepped) → Fine x → Fine (span_fits s o x)
-  span_fits_lem Span.Fits x f = f
-  span_fits_lem (Span.Bad a) x f = h
+  span_fits_lem : (o : Result (Unit {0}) ℕ) (x : Stepped) → Fine x → Fine (span_fits s o x)
+  span_fits_lem (Read _) x f = f
+  span_fits_lem (Unread a) x f = h
 
   begun : (p : Phase) → Ok s 0 p → Fine (starts s p)
   unfolding told
@@ -214,21 +212,21 @@ module _ (s : Session) (h : Ruled s) where
   idle_set x (Resetting c) i f g = no_true i
   idle_set x (Ended c a) i f g = (f, g)
 
-  set_to_lem : (y : SetAnswer) → is_ended s.phase ≡ true → ((x : Settings) → y ≡ Set x → Sound x) → Fine (set_to s y)
+  set_to_lem : (y : Result Settings SettingError) → is_ended s.phase ≡ true → ((x : Settings) → y ≡ Read x → Sound x) → Fine (set_to s y)
   unfolding rule_of
-  set_to_lem (Set x) i f =
+  set_to_lem (Read x) i f =
       let t = idle_set x s.phase i (rule_phase s h) (rule_polls s h) in
       hold _ (sound_settings x (f x refl), (t.0, (t.1, tt)))
-  set_to_lem Refused i f = h
+  set_to_lem (Unread e) i f = h
 
-  set_rule : (y : SetAnswer) → ((x : Settings) → y ≡ Set x → Sound x) → Fine (setting s y)
+  set_rule : (y : Result Settings SettingError) → ((x : Settings) → y ≡ Read x → Sound x) → Fine (setting s y)
   unfolding setting unless_runs
   set_rule y f = by_cond Fine (is_ended s.phase) (set_to s y) (refused s BadSession) (λ i. set_to_lem y i f) (λ i. h)
 
   limits_of : Sound s.settings
   limits_of = settings_sound s.settings sound
 
-  set_is : (x y : Settings) → Set x ≡ Set y → x ≡ y
+  set_is : (x y : Settings) → ◌≡◌ {A = Result Settings SettingError} (Read x) (Read y) → x ≡ y
   set_is x y e = cc
 
 pub keeps_rule : Kept
@@ -248,8 +246,8 @@ keeps_rule = record {
   sets_page_size = λ s h n. set_rule s h (set_page_size s.settings n) (λ x e. set_page_size_sound s.settings (limits_of s h) n x e);
   sets_erase_size = λ s h n. set_rule s h (set_erase_size s.settings n) (λ x e. set_erase_size_sound s.settings (limits_of s h) n x e);
   sets_poll_limit = λ s h n. set_rule s h (set_poll_limit s.settings n) (λ x e. set_poll_limit_sound s.settings (limits_of s h) n x e);
-  sets_capacity = λ s h n. set_rule s h (Set (set_capacity s.settings n)) (λ x e. subst Sound (set_is s h (set_capacity s.settings n) x e) (set_capacity_sound s.settings (limits_of s h) n));
-  clears_capacity = λ s h. set_rule s h (Set (clear_capacity s.settings)) (λ x e. subst Sound (set_is s h (clear_capacity s.settings) x e) (clear_capacity_sound s.settings (limits_of s h)));
-  sets_erase_opcode = λ s h n. set_rule s h (Set (set_erase_opcode s.settings n)) (λ x e. subst Sound (set_is s h (set_erase_opcode s.settings n) x e) (set_erase_opcode_sound s.settings (limits_of s h) n));
+  sets_capacity = λ s h n. set_rule s h (Read (set_capacity s.settings n)) (λ x e. subst Sound (set_is s h (set_capacity s.settings n) x e) (set_capacity_sound s.settings (limits_of s h) n));
+  clears_capacity = λ s h. set_rule s h (Read (clear_capacity s.settings)) (λ x e. subst Sound (set_is s h (clear_capacity s.settings) x e) (clear_capacity_sound s.settings (limits_of s h)));
+  sets_erase_opcode = λ s h n. set_rule s h (Read (set_erase_opcode s.settings n)) (λ x e. subst Sound (set_is s h (set_erase_opcode s.settings n) x e) (set_erase_opcode_sound s.settings (limits_of s h) n));
   steps = λ s h failed r room b. step_rule s failed r room b h;
 }

@@ -1,4 +1,5 @@
 -- THE STEP hands back a session that meets the rule.
+use Rattle.std.proofs.Common.{Some, None, Option}
 use Prim.Native.Nat.{ℕ, ◌+◌, ◌≤◌}
 use mathlib.Core.Path.{◌≡◌, refl, sym, ◌∙◌, subst}
 use mathlib.Core.Bool.{Bool, true, false, cond}
@@ -8,8 +9,7 @@ use lib.Dec.{ltb}
 use lib.ListN.{length}
 use borrow.Author.Tests.{leb-true, eqb-true}
 use Rattle.settings.specs.declared.Settings.{Settings}
-use Rattle.erase_plan.specs.declared.Next.{Next}
-use Rattle.erase_plan.specs.declared.Next.TheVariants.{Nothing, Entry}
+use Rattle.erase_plan.specs.declared.NextEntry.{NextEntry}
 use Rattle.erase_plan.proofs.Lists.{by_cond, no_false}
 use Rattle.commands.specs.declared.Answer.TheVariants.{Access}
 use Rattle.phases.specs.declared.Job.{Job}
@@ -49,10 +49,10 @@ issued (Verifying c) n = n
 issued (Resetting c) n = n
 issued (Ended c a) n = n
 
-block_poll : (bytes : ℕ) (o : Next) → (block_tx bytes o).poll ≡ false
+block_poll : (bytes : ℕ) (o : Option NextEntry) → (block_tx bytes o).poll ≡ false
 unfolding block_tx
-block_poll bytes Nothing = refl
-block_poll bytes (Entry e stop) = refl
+block_poll bytes None = refl
+block_poll bytes (Some e) = refl
 
 read_poll : (x : Settings) (c : ReadCommand) → (read_tx x c).poll ≡ false
 unfolding read_tx

@@ -1,17 +1,16 @@
 -- Lists of tests, and what the rule's tests say.
 use Prim.Native.Nat.{ℕ, ◌+◌, ◌≤◌}
 use mathlib.Core.Path.{◌≡◌, refl}
-use mathlib.Core.Bool.{Bool, true, false, ◌&&◌, ◌||◌}
+use mathlib.Core.Bool.{Bool, true, false, ◌&&◌}
 use mathlib.Core.List.{List, [], ◌∷◌}
 use native.Mathlib.Omega.{arith}
-use lib.Dec.{eqb}
-use borrow.Author.Tests.{leb-true, eqb-true, le-leb, eq-eqb}
+use borrow.Author.Tests.{leb-true, le-leb}
 use Rattle.sfdp.proofs.Laws.{left_of, right_of}
 use Rattle.settings.specs.declared.Settings.{Settings}
 use Rattle.settings.specs.Limits.{Sound}
 use Rattle.settings.specs.Ranges.{accepted_range}
 use Rattle.settings.proofs.Laws.{accepted_32}
-use Rattle.erase_plan.proofs.Lists.{no_true, no_false}
+use Rattle.erase_plan.proofs.Lists.{no_true}
 use Rattle.phases.specs.declared.Job.{Job}
 use Rattle.phases.specs.Waits.{span_of}
 use Rattle.meaning.proofs.Rest.{Ordered}
@@ -45,25 +44,16 @@ settings_sound s h =
     let t = held _ h in
     record {
       address = (leb-true _ _ t.0, leb-true _ _ t.1.0);
-      unset = unset s.capacity_set t.1.1.0;
-      page = leb-true _ _ t.1.1.1.0;
-      erase = leb-true _ _ t.1.1.1.1.0;
-      polls = (leb-true _ _ t.1.1.1.1.1.1.0, leb-true _ _ t.1.1.1.1.1.0);
+      page = leb-true _ _ t.1.1.0;
+      erase = leb-true _ _ t.1.1.1.0;
+      polls = (leb-true _ _ t.1.1.1.1.1.0, leb-true _ _ t.1.1.1.1.0);
     }
-  where
-    unset : (b : Bool) → b || eqb s.capacity 0 ≡ true → b ≡ false → s.capacity ≡ 0
-    unset true h e = no_false e
-    unset false h e = eqb-true s.capacity 0 h
 
 pub sound_settings : (s : Settings) → Sound s → settings_rule s ≡ true
 unfolding settings_rule
 sound_settings s o =
     hold _
-    (le-leb _ _ o.address.0, (le-leb _ _ o.address.1, (unset s.capacity_set o.unset, (le-leb _ _ o.page, (le-leb _ _ o.erase, (le-leb _ _ o.polls.1, (le-leb _ _ o.polls.0, tt)))))))
-  where
-    unset : (b : Bool) → (b ≡ false → s.capacity ≡ 0) → b || eqb s.capacity 0 ≡ true
-    unset true h = refl
-    unset false h = eq-eqb s.capacity 0 (h refl)
+    (le-leb _ _ o.address.0, (le-leb _ _ o.address.1, (le-leb _ _ o.page, (le-leb _ _ o.erase, (le-leb _ _ o.polls.1, (le-leb _ _ o.polls.0, tt))))))
 
 -- ---- a program's addresses
 pub record InOrder (J : Job) : Type 0 where

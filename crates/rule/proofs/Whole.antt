@@ -1,20 +1,17 @@
 -- Starts, setters and steps keep the widths and the rule together.
+use Rattle.std.proofs.Common.{Result, Ok, Err, unwrap_or}
 use Prim.Native.Nat.{ℕ, ◌+◌, ◌-◌}
 use mathlib.Core.Path.{◌≡◌, refl, subst}
 use mathlib.Core.Bool.{Bool, false, not, ◌&&◌, ◌||◌}
 use mathlib.Core.List.{List}
-use mathlib.Core.Option.{none}
 use native.Mathlib.Omega.{arith}
 use lib.Dec.{eqb, ltb, leb}
 use lib.ListN.{length}
 use Rattle.settings.specs.declared.Settings.{Settings}
-use Rattle.settings.specs.declared.SetAnswer.{SetAnswer}
-use Rattle.settings.specs.declared.SetAnswer.TheVariants.{Set, BadSetting as Refused}
+use Rattle.settings.specs.declared.SettingError.{SettingError}
 use Rattle.settings.specs.Limits.{with_address_bytes, with_page_size, with_erase, with_poll_limit, set_capacity, clear_capacity, set_erase_opcode}
 use Rattle.settings.specs.Ranges.{accepted_range, last_address}
 use Rattle.settings.proofs.Laws.{set_within}
-use Rattle.erase_plan.specs.declared.SpanCheck.{SpanCheck}
-use Rattle.erase_plan.specs.declared.SpanCheck.TheVariants as Span
 use Rattle.erase_plan.specs.Span.{span_check}
 use Rattle.erase_plan.proofs.Lists.{by_cond}
 use Rattle.commands.specs.declared.Answer.{Answer}
@@ -36,7 +33,7 @@ use Rattle.flash.specs.Starts.{refused, starts, unless_runs, in_range, have_type
 use Rattle.rule.specs.Kept.{Whole, KeptWhole}
 use Rattle.packed.specs.Typed.{U8, U64}
 use Rattle.rule.proofs.Starts.{keeps_rule}
-use Rattle.rule.proofs.Params.{no_params_typed}
+use Rattle.packed.proofs.Reading.{none_typed}
 use Rattle.rule.proofs.Widths.{Narrow}
 use Rattle.rule.proofs.Wide.{Wide, wide_of, whole_of, wide_in, to_before_lem, step_wide}
 use Rattle.erase_plan.specs.declared.Surveyed.{Surveyed}
@@ -44,7 +41,7 @@ use Rattle.settings.specs.Limits.{limited}
 
 -- ---- a fresh session
 fresh_wide : Wide fresh
-fresh_wide = record { capacity = omega arith; opcode = omega arith; params = no_params_typed; none = λ (k : false ≡ false). refl; narrow = (tt, tt) }
+fresh_wide = record { capacity = omega arith; opcode = omega arith; params = none_typed; none = λ (k : false ≡ false). refl; narrow = (tt, tt) }
 
 module _ (s : Session) (w : Wide s) where
   abbrev Fine : Stepped → Type 0
@@ -70,9 +67,9 @@ module _ (s : Session) (w : Wide s) where
   unfolding have_types
   have_types_lem x f = by_cond Fine (eqb (length (types_of s)) 0) (refused s NoEraseInstruction) x (λ t. w) (λ t. f)
 
-  span_fits_lem : (o : SpanCheck) (x : Stepped) → Fine x → Fine (span_fits s o x)
-  span_fits_lem Span.Fits x f = f
-  span_fits_lem (Span.Bad a) x f = w
+  span_fits_lem : (o : Result (Unit {0}) ℕ) (x : Stepped) → Fine x → Fine (span_fits s o x)
+  span_fits_lem (Ok _) x f = f
+  span_fits_lem (Err a) x f = w
 
   begun : (p : Phase) → Narrow p → Fine (starts s p)
   unfolding told
@@ -149,13 +146,13 @@ module _ (s : Session) (w : Wide s) where
 
   -- ---- the setters
   abbrev Fits : Settings → Type 0
-  Fits x = U64 x.capacity × U8 x.erase_opcode
+  Fits x = U64 (unwrap_or x.capacity 0) × U8 x.erase_opcode
 
-  set_to_lem : (y : SetAnswer) → ((x : Settings) → y ≡ Set x → Fits x) → Fine (set_to s y)
-  set_to_lem (Set x) f = record { capacity = (f x refl).0; opcode = (f x refl).1; params = w.params; none = w.none; narrow = w.narrow }
-  set_to_lem Refused f = w
+  set_to_lem : (y : Result Settings SettingError) → ((x : Settings) → y ≡ Ok x → Fits x) → Fine (set_to s y)
+  set_to_lem (Ok x) f = record { capacity = (f x refl).0; opcode = (f x refl).1; params = w.params; none = w.none; narrow = w.narrow }
+  set_to_lem (Err e) f = w
 
-  set_wide : (y : SetAnswer) → ((x : Settings) → y ≡ Set x → Fits x) → Fine (setting s y)
+  set_wide : (y : Result Settings SettingError) → ((x : Settings) → y ≡ Ok x → Fits x) → Fine (setting s y)
   unfolding setting
   set_wide y f = unless_runs_lem (set_to s y) (set_to_lem y f)
 
@@ -163,10 +160,10 @@ module _ (s : Session) (w : Wide s) where
   limited_wide : (low high n : ℕ) (changed : Settings) → Fits changed → Fine (setting s (limited low high n changed))
   limited_wide low high n changed k = set_wide (limited low high n changed) (λ x e. subst Fits (set_within low high n changed x e).1 k)
 
-  one_wide : (changed : Settings) → Fits changed → Fine (setting s (Set changed))
-  one_wide changed k = set_wide (Set changed) (λ x e. subst Fits (same changed x e) k)
+  one_wide : (changed : Settings) → Fits changed → Fine (setting s (Ok changed))
+  one_wide changed k = set_wide (Ok changed) (λ x e. subst Fits (same changed x e) k)
     where
-      same : (x y : Settings) → Set x ≡ Set y → x ≡ y
+      same : (x y : Settings) → ◌≡◌ {A = Result Settings SettingError} (Ok x) (Ok y) → x ≡ y
       same x y e = cc
 
   same_fits : Fits s.settings

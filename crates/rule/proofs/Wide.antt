@@ -1,24 +1,24 @@
 -- Starts, setters and steps keep the widths, where they keep the rule.
+use Rattle.std.proofs.Common.{Some, None, Option, Result, Ok, Err, unwrap_or}
 use Prim.Native.Nat.{ℕ, zero, suc, ◌+◌, ◌-◌, ◌%◌, ◌^◌, ◌≤◌, ◌<◌}
 use mathlib.Core.Path.{◌≡◌, refl}
 use mathlib.Core.Bool.{Bool, true, false}
 use mathlib.Core.List.{List, [], ◌∷◌}
-use mathlib.Core.Option.{Option, some, none}
 use native.Mathlib.Omega.{arith}
 use lib.Dec.{eqb, ltb}
 use lib.ListN.{length, get_or, take}
 use borrow.Author.Tests.{ltb-true, leb-true}
+use Rattle.sfdp.specs.declared.FlashParams.{FlashParams}
+use Rattle.sfdp.specs.declared.SFDPParameterHeader.{SFDPParameterHeader}
+use Rattle.sfdp.specs.declared.SFDPError.{SFDPError}
+use Rattle.sfdp.specs.declared.SFDPError.TheVariants as Refusal
 use Rattle.dwords.specs.Dwords.{byte_at}
 use Rattle.sfdp.specs.Jesd216.{no_params, read_header, read_table}
-use Rattle.sfdp.specs.declared.ReadHeader.{ReadHeader}
-use Rattle.sfdp.specs.declared.ReadHeader.TheVariants as OfHeader
-use Rattle.sfdp.specs.declared.ReadParams.{ReadParams}
-use Rattle.sfdp.specs.declared.ReadParams.TheVariants as OfTable
 use Rattle.settings.specs.Limits.{Sound, page_of}
-use Rattle.erase_plan.specs.declared.Next.{Next}
-use Rattle.erase_plan.specs.declared.Next.TheVariants.{Nothing, Entry}
+use Rattle.erase_plan.specs.declared.NextEntry.{NextEntry}
 use Rattle.erase_plan.specs.Good.{Each}
 use Rattle.erase_plan.proofs.Lists.{by_cond, no_false}
+use Rattle.commands.specs.Answers.{refusal_of}
 use Rattle.commands.specs.declared.Answer.TheVariants.{Done, DoneBool, Access, Busy}
 use Rattle.commands.specs.Transactions.{ready}
 use Rattle.commands.specs.Commands.{id_at, first_id}
@@ -71,7 +71,7 @@ each_at (x ∷ l) b (suc i) = each_at l b.1 i
 
 -- ---- what is kept beside the rule
 pub record Wide (s : Session) : Type 0 where
-  pub capacity : U64 s.settings.capacity
+  pub capacity : U64 (unwrap_or s.settings.capacity 0)
   pub opcode : U8 s.settings.erase_opcode
   pub params : TypedParams s.params
   pub none : s.known ≡ false → s.params ≡ no_params
@@ -131,16 +131,20 @@ module _ (s : Session) (w : Wide s) where
       (λ t. id_typed more (n + 1) r b (omega arith))
       (λ t. (omega arith, b.below n, omega arith))
 
-  headed : (n : ℕ) (h : ReadHeader) → Wide (goes s n (with_header h))
-  unfolding with_header
-  headed n OfHeader.NoSFDP = wide_in _ n (tt, tt)
-  headed n OfHeader.InvalidSFDPHeader = wide_in _ n (tt, tt)
-  headed n (OfHeader.Header h) = wide_in _ n tt
+  told_typed : (e : SFDPError) → TypedAnswer (refusal_of e)
+  told_typed Refusal.NoSFDP = tt
+  told_typed Refusal.InvalidSFDPHeader = tt
+  told_typed Refusal.InvalidSFDPParams = tt
 
-  tabled : (minor plen n : ℕ) (r : List ℕ) → Bytes r → U8 minor → (t : ReadParams) → read_table minor plen r ≡ t → Wide (with_table s n t)
+  headed : (n : ℕ) (h : Result SFDPParameterHeader SFDPError) → Wide (goes s n (with_header h))
+  unfolding with_header
+  headed n (Err e) = wide_in _ n (tt, told_typed e)
+  headed n (Ok h) = wide_in _ n tt
+
+  tabled : (minor plen n : ℕ) (r : List ℕ) → Bytes r → U8 minor → (t : Result FlashParams SFDPError) → read_table minor plen r ≡ t → Wide (with_table s n t)
   unfolding with_table
-  tabled minor plen n r b m OfTable.InvalidSFDPParams e = wide_in _ n (tt, tt)
-  tabled minor plen n r b m (OfTable.Params p) e =
+  tabled minor plen n r b m (Err x) e = wide_in _ n (tt, told_typed x)
+  tabled minor plen n r b m (Ok p) e =
       let t : TypedParams p = table_typed minor plen r p (each_at r (bytes_each r b)) m e in
       record {
         capacity = updated_capacity p t s.settings;
@@ -212,10 +216,10 @@ module _ (s : Session) (w : Wide s) where
   phase_command (Ended c a) e h = no_false e
 
   -- ---- polls
-  next_erase_lem : (o : Next) (last : ℕ) (on : ℕ → Phase) (over' : Phase) → ((q : ℕ) → Narrow (on q)) → Narrow over' → Narrow (next_erase o last on over')
+  next_erase_lem : (o : Option NextEntry) (last : ℕ) (on : ℕ → Phase) (over' : Phase) → ((q : ℕ) → Narrow (on q)) → Narrow over' → Narrow (next_erase o last on over')
   unfolding next_erase
-  next_erase_lem Nothing last on over' f g = g
-  next_erase_lem (Entry e stop) last on over' f g = by_cond Narrow (ltb stop last) (on (stop + 1)) over' (λ t. f (stop + 1)) (λ t. g)
+  next_erase_lem None last on over' f g = g
+  next_erase_lem (Some e) last on over' f g = by_cond Narrow (ltb e.stop last) (on (e.stop + 1)) over' (λ t. f (e.stop + 1)) (λ t. g)
 
   after_erase_lem : (c : EraseCommand) (room : List ℕ) → Narrow (after_erase s c room)
   unfolding after_erase
@@ -264,8 +268,8 @@ module _ (s : Session) (w : Wide s) where
 
   -- ---- verify
   abbrev Differing : Option Mismatch → Type 0
-  Differing none = Unit {0}
-  Differing (some m) = U8 m.wrote × U8 m.read
+  Differing None = Unit {0}
+  Differing (Some m) = U8 m.wrote × U8 m.read
 
   differs_bytes : (base i : ℕ) (l r : List ℕ) → Each U8 l → Each U8 r → Differing (first_differs base i l r)
   unfolding first_differs
@@ -274,14 +278,14 @@ module _ (s : Session) (w : Wide s) where
   differs_bytes base i (x ∷ l) (y ∷ r) a b = on (eqb x y) (differs_bytes base (suc i) l r a.1 b.1)
     where
       on : (t : Bool) → Differing (first_differs base (suc i) l r)
-          → Differing (elim t [ true ↦ first_differs base (suc i) l r | false ↦ some (record { address = (base + i) % 2 ^ 32; wrote = x; read = y }) ])
+          → Differing (elim t [ true ↦ first_differs base (suc i) l r | false ↦ Some (record { address = (base + i) % 2 ^ 32; wrote = x; read = y }) ])
       on true k = k
       on false k = (a.0, b.0)
 
   judged_narrow : (J : Job) (x : Option Mismatch) → TypedJob J → Differing x → Narrow (judged J x)
   unfolding judged
-  judged_narrow J none j d = (j, tt)
-  judged_narrow J (some m) j d = d
+  judged_narrow J None j d = (j, tt)
+  judged_narrow J (Some m) j d = d
 
   verify_on_lem : (c : VerifyCommand) (r room : List ℕ) → Bytes r → Bytes room → verify_rule s.settings c ≡ true → Narrow (Verifying c) → Narrow (verify_on c r room)
   unfolding verify_on verify_rule differs_rule

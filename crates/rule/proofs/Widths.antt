@@ -1,18 +1,19 @@
 -- The widths of a session that meets the rule: those of a running phase follow from the rule, but for bytes that were read.
+use Rattle.std.proofs.Common.{Option, Some, None, unwrap_or}
+use Rattle.std.specs.Option.{option_or}
 use Prim.Native.Nat.{ℕ, ◌+◌, ◌-◌, ◌^◌, ◌≤◌, ◌<◌}
 use mathlib.Core.Path.{◌≡◌}
 use mathlib.Core.Bool.{Bool, true, cond, not, ◌&&◌, ◌||◌}
 use native.Mathlib.Omega.{arith}
 use lib.Dec.{eqb}
 use borrow.Author.Tests.{ltb-true, leb-true, eqb-true}
-use Rattle.sfdp.specs.Chosen.{missing, below, lesser, smallest, sector_erase, capacity}
+use Rattle.sfdp.specs.Chosen.{missing, below, lesser, smallest, sector_erase}
 use Rattle.sfdp.specs.declared.FlashParams.{FlashParams}
 use Rattle.sfdp.specs.declared.SFDPEraseInst.{SFDPEraseInst}
 use Rattle.sfdp.specs.declared.SectorErase.{SectorErase}
-use Rattle.sfdp.specs.declared.SectorErase.TheVariants.{Smallest, Nothing}
 use Rattle.settings.specs.declared.Settings.{Settings}
 use Rattle.settings.specs.Limits.{Sound}
-use Rattle.settings.specs.Updated.{legacy_erase, or_else, chosen_erase, opcode_or, updated}
+use Rattle.settings.specs.Updated.{legacy_erase, chosen_erase, opcode_or, updated}
 use Rattle.settings.proofs.Laws.{accepted_nonempty, accepted_32}
 use Rattle.erase_plan.proofs.Lists.{by_cond}
 use Rattle.phases.specs.declared.Job.{Job}
@@ -34,7 +35,7 @@ use Rattle.packed.specs.Typed.{U8, U16, U64, TypedSettings, TypedParams, TypedJo
 use Rattle.rule.proofs.Tests.{held, job_ordered_lem, plan_job, written}
 
 -- ---- the settings: all but the capacity and the opcode
-pub settings_typed : (s : Settings) → Sound s → U64 s.capacity → U8 s.erase_opcode → TypedSettings s
+pub settings_typed : (s : Settings) → Sound s → U64 (unwrap_or s.capacity 0) → U8 s.erase_opcode → TypedSettings s
 settings_typed s o c e = record {
   address_bytes = omega (arith, o.address.1);
   capacity = c;
@@ -51,9 +52,9 @@ lesser_opcode a b ha hb =
     by_cond (λ (i : SFDPEraseInst). U8 i.opcode) (missing b) a (cond (missing a || below b a) b a) (λ t. ha)
     (λ t. by_cond (λ (i : SFDPEraseInst). U8 i.opcode) (missing a || below b a) b a (λ u. hb) (λ u. ha))
 
-abbrev Narrower : SectorErase → Type 0
-Narrower (Smallest size opcode) = U8 opcode
-Narrower Nothing = Unit {0}
+abbrev Narrower : Option SectorErase → Type 0
+Narrower (Some x) = U8 x.opcode
+Narrower None = Unit {0}
 
 module _ (p : FlashParams) (t : TypedParams p) where
   smallest_opcode : U8 (smallest p.erase_insts).opcode
@@ -67,27 +68,27 @@ module _ (p : FlashParams) (t : TypedParams p) where
 
   sector_opcode : Narrower (sector_erase p.erase_insts)
   unfolding sector_erase
-  sector_opcode = by_cond Narrower (missing (smallest p.erase_insts)) Nothing _ (λ u. tt) (λ u. smallest_opcode)
+  sector_opcode = by_cond Narrower (missing (smallest p.erase_insts)) None _ (λ u. tt) (λ u. smallest_opcode)
 
   legacy_opcode : Narrower (legacy_erase p)
   unfolding legacy_erase
-  legacy_opcode = by_cond Narrower (p.legacy_4kb_erase_supported && not (eqb p.legacy_4kb_erase_inst 0xFF)) _ Nothing (λ u. t.legacy_4kb_erase_inst) (λ u. tt)
+  legacy_opcode = by_cond Narrower (p.legacy_4kb_erase_supported && not (eqb p.legacy_4kb_erase_inst 0xFF)) _ None (λ u. t.legacy_4kb_erase_inst) (λ u. tt)
 
-  either_opcode : (a b : SectorErase) → Narrower a → Narrower b → Narrower (or_else a b)
-  either_opcode (Smallest size opcode) b ha hb = ha
-  either_opcode Nothing b ha hb = hb
+  either_opcode : (a b : Option SectorErase) → Narrower a → Narrower b → Narrower (option_or a b)
+  either_opcode (Some x) b ha hb = ha
+  either_opcode None b ha hb = hb
 
-  opcode_or_lem : (old : ℕ) (a : SectorErase) → U8 old → Narrower a → U8 (opcode_or old a)
-  opcode_or_lem old (Smallest size opcode) ho ha = ha
-  opcode_or_lem old Nothing ho ha = ho
+  opcode_or_lem : (old : ℕ) (a : Option SectorErase) → U8 old → Narrower a → U8 (opcode_or old a)
+  opcode_or_lem old (Some x) ho ha = ha
+  opcode_or_lem old None ho ha = ho
 
   pub updated_opcode : (s : Settings) → U8 s.erase_opcode → U8 (updated s p).erase_opcode
   unfolding updated chosen_erase
   updated_opcode s h =
-      opcode_or_lem s.erase_opcode (or_else (sector_erase p.erase_insts) (legacy_erase p)) h
+      opcode_or_lem s.erase_opcode (option_or (sector_erase p.erase_insts) (legacy_erase p)) h
       (either_opcode (sector_erase p.erase_insts) (legacy_erase p) sector_opcode legacy_opcode)
 
-  pub updated_capacity : (s : Settings) → U64 (updated s p).capacity
+  pub updated_capacity : (s : Settings) → U64 (unwrap_or (updated s p).capacity 0)
   unfolding updated
   updated_capacity s = omega (arith, t.density)
 

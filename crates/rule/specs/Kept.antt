@@ -1,6 +1,5 @@
 -- That the rule is kept: by a fresh session, and by whatever a start, a setter or a step hands back.
-use Rattle.std.specs.Prelude.{ℕ, ◌<◌, ◌^◌, ◌≡◌, Bool, true, false, ◌||◌, List, eqb}
-use Rattle.settings.specs.declared.SetAnswer.TheVariants.{Set}
+use Rattle.std.specs.Prelude.{ℕ, ◌<◌, ◌^◌, ◌≡◌, Bool, true, false, ◌||◌, List, eqb, Ok}
 use Rattle.settings.specs.Limits.{Sound, set_address_bytes, set_page_size, set_erase_size, set_poll_limit, set_capacity, clear_capacity, set_erase_opcode}
 use Rattle.commands.specs.declared.Answer.{Answer}
 use Rattle.commands.specs.Answers.{number_of}
@@ -50,9 +49,9 @@ pub record Kept : Type 0 where
   pub sets_page_size : (s : Session) → Ruled s → (n : ℕ) → Ruled (setting s (set_page_size s.settings n)).session
   pub sets_erase_size : (s : Session) → Ruled s → (n : ℕ) → Ruled (setting s (set_erase_size s.settings n)).session
   pub sets_poll_limit : (s : Session) → Ruled s → (n : ℕ) → Ruled (setting s (set_poll_limit s.settings n)).session
-  pub sets_capacity : (s : Session) → Ruled s → (n : ℕ) → Ruled (setting s (Set (set_capacity s.settings n))).session
-  pub clears_capacity : (s : Session) → Ruled s → Ruled (setting s (Set (clear_capacity s.settings))).session
-  pub sets_erase_opcode : (s : Session) → Ruled s → (n : ℕ) → Ruled (setting s (Set (set_erase_opcode s.settings n))).session
+  pub sets_capacity : (s : Session) → Ruled s → (n : ℕ) → Ruled (setting s (Ok (set_capacity s.settings n))).session
+  pub clears_capacity : (s : Session) → Ruled s → Ruled (setting s (Ok (clear_capacity s.settings))).session
+  pub sets_erase_opcode : (s : Session) → Ruled s → (n : ℕ) → Ruled (setting s (Ok (set_erase_opcode s.settings n))).session
   -- the step, for every reply of bytes, reported as failed or not, and every room
   pub steps : (s : Session) → Ruled s → (failed : Bool) (r room : List ℕ) → Bytes r → Ruled (step_of s failed r room).out.session
 
@@ -79,8 +78,8 @@ pub record KeptWhole : Type 0 where
   pub sets_page_size : (s : Session) → Whole s → (n : ℕ) → Whole (setting s (set_page_size s.settings n)).session
   pub sets_erase_size : (s : Session) → Whole s → (n : ℕ) → Whole (setting s (set_erase_size s.settings n)).session
   pub sets_poll_limit : (s : Session) → Whole s → (n : ℕ) → Whole (setting s (set_poll_limit s.settings n)).session
-  pub sets_capacity : (s : Session) → Whole s → (n : ℕ) → U64 n → Whole (setting s (Set (set_capacity s.settings n))).session
-  pub clears_capacity : (s : Session) → Whole s → Whole (setting s (Set (clear_capacity s.settings))).session
-  pub sets_erase_opcode : (s : Session) → Whole s → (n : ℕ) → U8 n → Whole (setting s (Set (set_erase_opcode s.settings n))).session
+  pub sets_capacity : (s : Session) → Whole s → (n : ℕ) → U64 n → Whole (setting s (Ok (set_capacity s.settings n))).session
+  pub clears_capacity : (s : Session) → Whole s → Whole (setting s (Ok (clear_capacity s.settings))).session
+  pub sets_erase_opcode : (s : Session) → Whole s → (n : ℕ) → U8 n → Whole (setting s (Ok (set_erase_opcode s.settings n))).session
   -- the step, for every reply of bytes and every room of bytes
   pub steps : (s : Session) → Whole s → (failed : Bool) (r room : List ℕ) → Bytes r → Bytes room → Whole (step_of s failed r room).out.session

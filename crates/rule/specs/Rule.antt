@@ -32,14 +32,13 @@ all [] = true
 all (t ∷ []) = t
 all (t ∷ u ∷ ts) = t && all (u ∷ ts)
 
--- ---- the settings are within their limits: address bytes 1 to 4, a capacity of 0 where it is not set, a page size of at most
+-- ---- the settings are within their limits: address bytes 1 to 4, a page size of at most
 -- 32,768, an erase size of at most 2,147,483,648, a poll limit of 1 to 65,535
 unfoldable pub settings_rule : Settings → Bool
 settings_rule s =
     all
     (leb 1 s.address_bytes
     ∷ leb s.address_bytes 4
-    ∷ (s.capacity_set || eqb s.capacity 0)
     ∷ leb s.page_size 32768
     ∷ leb s.erase_size 2147483648
     ∷ leb s.poll_limit 65535

@@ -4,73 +4,39 @@
 mod behind;
 mod phase_rules;
 
-ghost use Rattle.std.specs.Prelude.{◌≡◌, ◌&&◌, ◌||◌, eqb, leb};
+ghost use Rattle.std.specs.Prelude.{◌≡◌};
 ghost use Rattle.rule.specs.Rule.{settings_rule, phase_rule, polls_rule, rule_of};
 
 use flash::Session;
 use phases::Phase;
 use settings::Settings;
 
-// A capacity of 0 where it is not set.
-fn capacity_holds(s: Settings) -> bool
-    ensures { result ≡ s.capacity_set || eqb s.capacity 0 }
-{
-    if s.capacity_set {
-        true
-    } else {
-        s.capacity == 0
-    }
-}
-
-// A poll limit of 1 to 65,535: its type says that it is no more.
-fn limit_holds(limit: u16) -> bool
-    ensures { result ≡ leb limit 65535 && leb 1 limit }
-{
-    1 <= limit
-}
-
-// The settings are within their limits.
+// The settings are within their limits. That the poll limit is at most 65,535 its type says.
+#[tactic(auto, unfolding(crate::specs::Rule::settings_rule, crate::specs::Rule::all))]
 pub fn settings_hold(s: Settings) -> bool
     ensures { result ≡ settings_rule s }
 {
-    if s.address_bytes < 1 {
-        return false;
-    }
-    if 4 < s.address_bytes {
-        return false;
-    }
-    if capacity_holds(s) {
-        if 32_768 < s.page_size {
-            return false;
-        }
-        if 2_147_483_648 < s.erase_size {
-            return false;
-        }
-        limit_holds(s.poll_limit)
-    } else {
-        false
-    }
+    1 <= s.address_bytes
+        && s.address_bytes <= 4
+        && s.page_size <= 32_768
+        && s.erase_size <= 2_147_483_648
+        && 1 <= s.poll_limit
 }
 
 // The phase fits its command.
+#[tactic(auto, unfolding(crate::specs::Rule::phase_rule))]
 pub fn phase_holds(s: Session, p: Phase) -> bool
     ensures { result ≡ phase_rule s p }
 {
     let x = s.settings;
     match p {
-        Phase::Reading { command } => phase_rules::read_holds(
-            x,
-            phase_rules::has_types(s),
-            command,
-        ),
-        Phase::Erasing {
-            command,
-            enabled: _,
-        } => phase_rules::erase_holds(x, phase_rules::has_types(s), command),
-        Phase::Writing {
-            command,
-            enabled: _,
-        } => phase_rules::write_holds(x, command),
+        Phase::Reading { command } => {
+            phase_rules::read_holds(x, phase_rules::has_types(s), command)
+        }
+        Phase::Erasing { command, .. } => {
+            phase_rules::erase_holds(x, phase_rules::has_types(s), command)
+        }
+        Phase::Writing { command, .. } => phase_rules::write_holds(x, command),
         Phase::Polling { command, left } => {
             phase_rules::poll_holds(x, phase_rules::has_types(s), command, left)
         }
@@ -81,18 +47,11 @@ pub fn phase_holds(s: Session, p: Phase) -> bool
 }
 
 // Whether a session meets the rule.
+#[tactic(auto, unfolding(crate::specs::Rule::rule_of, crate::specs::Rule::all))]
 pub fn holds(s: Session) -> bool
     ensures { result ≡ rule_of s }
 {
-    let x = s.settings;
-    let p = s.phase;
-    if settings_hold(x) {
-        if phase_holds(s, p) {
-            behind::polls_hold(s.polls, x.poll_limit, p)
-        } else {
-            false
-        }
-    } else {
-        false
-    }
+    settings_hold(s.settings)
+        && phase_holds(s, s.phase)
+        && behind::polls_hold(s.polls, s.settings.poll_limit, s.phase)
 }

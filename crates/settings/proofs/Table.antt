@@ -1,19 +1,20 @@
 -- The sizes in an accepted parameter table are within the limits of the settings, so read_params keeps them.
-use Rattle.std.proofs.Common.{◌≡◌, ℕ, ◌%◌, ◌^◌, ◌<◌, ◌≤◌, Bool, true, false, cond, not, ◌&&◌, ◌||◌, eqb, List, refl, true≢false, mod-lt, arith, pow_pos}
+use Rattle.std.proofs.Common.{◌≡◌, ℕ, ◌%◌, ◌^◌, ◌<◌, ◌≤◌, Bool, true, false, cond, not, ◌&&◌, ◌||◌, eqb, List, refl, mod-lt, arith, pow_pos, Option, Some, None, Ok, Err}
+use Rattle.std.specs.Option.{option_or}
 use native.Mathlib.Nat.{pow-le-pow_right}
 use borrow.Author.Tests.{eqb-false}
+use Rattle.std.proofs.lemmas.Bool.{cond_both, or_parts}
 use Rattle.sfdp.specs.Jesd216.{erase_type, erase_types, no_type, extended, fields, params, accepted, read_table, size_fits}
 use Rattle.sfdp.specs.Chosen.{lesser, smallest, sector_erase, below, missing}
 use Rattle.sfdp.specs.declared.FlashParams.{FlashParams}
-use Rattle.sfdp.specs.declared.ReadParams.TheVariants.{Params, InvalidSFDPParams}
+use Rattle.sfdp.specs.declared.SFDPError.TheVariants.{InvalidSFDPParams}
 use Rattle.sfdp.specs.declared.SFDPAddressBytes.{SFDPAddressBytes}
 use Rattle.sfdp.specs.declared.SFDPAddressBytes.TheVariants as Address
 use Rattle.sfdp.specs.declared.SFDPEraseInst.{SFDPEraseInst}
 use Rattle.sfdp.specs.declared.SFDPEraseInsts.{SFDPEraseInsts}
 use Rattle.sfdp.specs.declared.SectorErase.{SectorErase}
-use Rattle.sfdp.specs.declared.SectorErase.TheVariants.{Smallest, Nothing}
 use Rattle.sfdp.proofs.Laws.{exponent_fits, first_fits, second_fits, sizes_8, sizes_9}
-use Rattle.settings.specs.Updated.{address_bytes_of, legacy_erase, or_else, chosen_erase, size_or}
+use Rattle.settings.specs.Updated.{address_bytes_of, legacy_erase, chosen_erase, size_or}
 
 -- ---- the largest erase size
 abbrev most : ℕ
@@ -21,19 +22,13 @@ most = 2147483648
 
 -- either way of a choice is within a bound
 either_size : (b : Bool) (x y : SFDPEraseInst) → (b ≡ true → x.size ≤ most) → (b ≡ false → y.size ≤ most) → (cond b x y).size ≤ most
-either_size true x y hx hy = hx refl
-either_size false x y hx hy = hy refl
-
--- neither of two tests holds
-neither : (a b : Bool) → a || b ≡ false → b ≡ false
-neither true b h = absurd (true≢false h)
-neither false b h = h
+either_size b x y hx hy = cond_both b x y (λ (i : SFDPEraseInst). i.size ≤ most) hx hy
 
 pub type_size : (e o : ℕ) (known : Bool) (m time : ℕ) → size_fits e o ≡ true → (erase_type e o known m time).size ≤ most
 unfolding erase_type
 type_size e o known m time h =
     either_size (eqb e 0 || eqb o 0) no_type _ (λ b. omega arith)
-    (λ b. shift (exponent_fits e o h (eqb-false o 0 (neither (eqb e 0) (eqb o 0) b))))
+    (λ b. shift (exponent_fits e o h (eqb-false o 0 (or_parts (eqb e 0) (eqb o 0) b).1)))
   where
     shift : e < 32 → 2 ^ e ≤ most
     shift k = pow-le-pow_right {n = 2} (omega arith) {j = 31} (omega arith)
@@ -57,7 +52,7 @@ sector_size : (s : SFDPEraseInsts) (old : ℕ) → old ≤ most → (smallest s)
 unfolding sector_erase
 sector_size s old ho hs = by (missing (smallest s))
   where
-    by : (b : Bool) → size_or old (cond b Nothing (Smallest (smallest s).size (smallest s).opcode)) ≤ most
+    by : (b : Bool) → size_or old (cond b None (Some (record { size = (smallest s).size; opcode = (smallest s).opcode }))) ≤ most
     by true = ho
     by false = hs
 
@@ -65,13 +60,13 @@ legacy_size : (p : FlashParams) (old : ℕ) → old ≤ most → size_or old (le
 unfolding legacy_erase
 legacy_size p old ho = by (p.legacy_4kb_erase_supported && not (eqb p.legacy_4kb_erase_inst 0xFF))
   where
-    by : (b : Bool) → size_or old (cond b (Smallest 4096 p.legacy_4kb_erase_inst) Nothing) ≤ most
+    by : (b : Bool) → size_or old (cond b (Some (record { size = 4096; opcode = p.legacy_4kb_erase_inst })) None) ≤ most
     by true = omega arith
     by false = ho
 
-or_size : (old : ℕ) (a b : SectorErase) → size_or old a ≤ most → size_or old b ≤ most → size_or old (or_else a b) ≤ most
-or_size old (Smallest size opcode) b ha hb = ha
-or_size old Nothing b ha hb = hb
+or_size : (old : ℕ) (a b : Option SectorErase) → size_or old a ≤ most → size_or old b ≤ most → size_or old (option_or a b) ≤ most
+or_size old (Some erase) b ha hb = ha
+or_size old None b ha hb = hb
 
 pub chosen_size : (p : FlashParams) (old : ℕ) → old ≤ most → (smallest p.erase_insts).size ≤ most → size_or old (chosen_erase p) ≤ most
 unfolding chosen_erase
@@ -95,10 +90,10 @@ three_or_four Address.Four = (omega arith, omega arith)
 three_or_four Address.Reserved = (omega arith, omega arith)
 
 -- ---- a table that gives parameters is accepted, and they are its own
-pub table_given : (minor n : ℕ) (t : List ℕ) (p : FlashParams) → read_table minor n t ≡ Params p → (accepted n t ≡ true) × (params minor n t ≡ p)
+pub table_given : (minor n : ℕ) (t : List ℕ) (p : FlashParams) → read_table minor n t ≡ Ok p → (accepted n t ≡ true) × (params minor n t ≡ p)
 unfolding read_table
 table_given minor n t p = by (accepted n t)
   where
-    by : (b : Bool) → cond b (Params (params minor n t)) InvalidSFDPParams ≡ Params p → (b ≡ true) × (params minor n t ≡ p)
+    by : (b : Bool) → cond b (Ok (params minor n t)) (Err InvalidSFDPParams) ≡ Ok p → (b ≡ true) × (params minor n t ≡ p)
     by true e = (refl, (cc))
     by false e = let z : ◌≡◌ {A = ℕ} 0 1 = cc in absurd (omega arith)

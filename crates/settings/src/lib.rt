@@ -9,43 +9,35 @@ ghost use Rattle.settings.specs.Ranges.{reach, capacity_allows, accepted_range, 
 
 use sfdp::{FlashParams, SFDPAddressBytes, SectorErase};
 
-// page_size and erase_size 0: unset. capacity_set: whether a capacity is set; capacity is 0 where it is not.
+// page_size and erase_size 0: unset.
 #[derive(Clone, Copy)]
 pub struct Settings {
     pub address_bytes: u8,
-    pub capacity_set: bool,
-    pub capacity: u64,
+    pub capacity: Option<u64>,
     pub page_size: u32,
     pub erase_size: u32,
     pub erase_opcode: u8,
     pub poll_limit: u16,
 }
 
-// What answer 5 reports.
+// A range that is not accepted: what answer 5 reports.
 #[derive(Clone, Copy)]
 pub struct BadRange {
     pub last: u32,
 }
 
-// Whether a range is accepted; if not, answer 5.
+// Why a setter changes nothing: the number is not within its limits, answer 10.
 #[derive(Clone, Copy)]
-pub enum RangeCheck {
-    Fits,
-    InvalidAddress(BadRange),
-}
-
-// What a setter with limits gives: the new settings, or answer 10.
-#[derive(Clone, Copy)]
-pub enum SetAnswer {
-    Set(Settings),
+pub enum SettingError {
     BadSetting,
 }
 
 // Whether a number is within its limits.
+#[tactic(auto, using(std::proofs::lemmas::Bool::Decides::nat_tests), unfolding(crate::specs::Limits::within))]
 fn is_within(low: u64, high: u64, n: u64) -> bool
     ensures { result ≡ within low high n }
 {
-    if low <= n { n <= high } else { false }
+    low <= n && n <= high
 }
 
 impl Settings {
@@ -55,8 +47,7 @@ impl Settings {
     {
         Settings {
             address_bytes: 3,
-            capacity_set: false,
-            capacity: 0,
+            capacity: None,
             page_size: 0,
             erase_size: 0,
             erase_opcode: 0x20,
@@ -73,11 +64,10 @@ impl Settings {
         self
     }
 
-    fn with_capacity(mut self, given: bool, n: u64) -> Settings
-        ensures { result ≡ with_capacity given n self }
+    fn with_capacity(mut self, capacity: Option<u64>) -> Settings
+        ensures { result ≡ with_capacity capacity self }
     {
-        self.capacity_set = given;
-        self.capacity = n;
+        self.capacity = capacity;
         self
     }
 
@@ -106,46 +96,50 @@ impl Settings {
     // ---- setters
 
     // 1 to 4.
-    pub fn set_address_bytes(self, n: u8) -> SetAnswer
+    #[tactic(auto, using(crate::proofs::Laws::within_high, crate::proofs::Laws::set_when, crate::proofs::Laws::set_unless))]
+    pub fn set_address_bytes(self, n: u8) -> Result<Settings, SettingError>
         ensures { result ≡ set_address_bytes self n }
     {
         if is_within(1, 4, n as u64) {
-            SetAnswer::Set(self.with_address_bytes(n))
+            Ok(self.with_address_bytes(n))
         } else {
-            SetAnswer::BadSetting
+            Err(SettingError::BadSetting)
         }
     }
 
     // 1 to 32,768.
-    pub fn set_page_size(self, n: u64) -> SetAnswer
+    #[tactic(auto, using(crate::proofs::Laws::within_high, crate::proofs::Laws::set_when, crate::proofs::Laws::set_unless))]
+    pub fn set_page_size(self, n: u64) -> Result<Settings, SettingError>
         ensures { result ≡ set_page_size self n }
     {
         if is_within(1, 32_768, n) {
-            SetAnswer::Set(self.with_page_size(n as u32))
+            Ok(self.with_page_size(n as u32))
         } else {
-            SetAnswer::BadSetting
+            Err(SettingError::BadSetting)
         }
     }
 
     // 1 to 2,147,483,648.
-    pub fn set_erase_size(self, n: u64) -> SetAnswer
+    #[tactic(auto, using(crate::proofs::Laws::within_high, crate::proofs::Laws::set_when, crate::proofs::Laws::set_unless))]
+    pub fn set_erase_size(self, n: u64) -> Result<Settings, SettingError>
         ensures { result ≡ set_erase_size self n }
     {
         if is_within(1, 2_147_483_648, n) {
-            SetAnswer::Set(self.with_erase(n as u32, self.erase_opcode))
+            Ok(self.with_erase(n as u32, self.erase_opcode))
         } else {
-            SetAnswer::BadSetting
+            Err(SettingError::BadSetting)
         }
     }
 
     // 1 to 65,535.
-    pub fn set_poll_limit(self, n: u32) -> SetAnswer
+    #[tactic(auto, using(crate::proofs::Laws::within_high, crate::proofs::Laws::set_when, crate::proofs::Laws::set_unless))]
+    pub fn set_poll_limit(self, n: u32) -> Result<Settings, SettingError>
         ensures { result ≡ set_poll_limit self n }
     {
         if is_within(1, 65_535, n as u64) {
-            SetAnswer::Set(self.with_poll_limit(n as u16))
+            Ok(self.with_poll_limit(n as u16))
         } else {
-            SetAnswer::BadSetting
+            Err(SettingError::BadSetting)
         }
     }
 
@@ -153,13 +147,13 @@ impl Settings {
     pub fn set_capacity(self, n: u64) -> Settings
         ensures { result ≡ set_capacity self n }
     {
-        self.with_capacity(true, n)
+        self.with_capacity(Some(n))
     }
 
     pub fn clear_capacity(self) -> Settings
         ensures { result ≡ clear_capacity self }
     {
-        self.with_capacity(false, 0)
+        self.with_capacity(None)
     }
 
     // Any byte.
@@ -170,6 +164,7 @@ impl Settings {
     }
 
     // The page size that is programmed by.
+    #[tactic(auto, using(std::proofs::lemmas::Bool::Decides::nat_tests), unfolding(crate::specs::Limits::page_of))]
     pub fn page(self) -> u32
         ensures { result ≡ page_of self }
     {
@@ -183,22 +178,22 @@ impl Settings {
     // ---- read_params
 
     // The size and opcode of an erase instruction, if there is one.
-    fn with_chosen(self, chosen: SectorErase) -> Settings
+    fn with_chosen(self, chosen: Option<SectorErase>) -> Settings
         ensures { result ≡ with_erase (size_or self.erase_size chosen) (opcode_or self.erase_opcode chosen) self }
     {
         match chosen {
-            SectorErase::Smallest(size, opcode) => self.with_erase(size, opcode),
-            SectorErase::Nothing => self,
+            Some(erase) => self.with_erase(erase.size, erase.opcode),
+            None => self,
         }
     }
 
     // The settings after a read_params that gave these parameters.
+    #[tactic(auto, unfolding(crate::specs::Updated::updated))]
     pub fn update(self, p: FlashParams) -> Settings
         ensures { result ≡ updated self p }
     {
-        let bytes = p.address_bytes;
         let s = self
-            .with_address_bytes(address_bytes_of(bytes))
+            .with_address_bytes(address_bytes_of(p.address_bytes))
             .set_capacity(p.capacity_bytes());
         let chosen = chosen_erase(p);
         if p.jesd216a {
@@ -214,34 +209,30 @@ impl Settings {
     fn capacity_allows(self, address: u32, length: u64) -> bool
         ensures { result ≡ capacity_allows self (address + length) }
     {
-        if self.capacity_set {
-            ends_within(address, length, self.capacity)
-        } else {
-            true
+        match self.capacity {
+            Some(capacity) => ends_within(address, length, capacity),
+            None => true,
         }
     }
 
+    #[tactic(auto, using(std::proofs::lemmas::Bool::Decides::nat_tests), unfolding(crate::specs::Ranges::accepted_range))]
     fn is_accepted(self, address: u32, length: u64) -> bool
         ensures { result ≡ accepted_range self address length }
     {
-        if length < 1 {
-            return false;
-        }
-        if ends_within(address, length, reach_of(self.address_bytes)) {
-            self.capacity_allows(address, length)
-        } else {
-            false
-        }
+        1 <= length
+            && ends_within(address, length, reach_of(self.address_bytes))
+            && self.capacity_allows(address, length)
     }
 
     // Whether the range of length bytes from address on is accepted.
-    pub fn check_address_length(self, address: u32, length: u64) -> RangeCheck
+    #[tactic(auto, unfolding(crate::specs::Ranges::check_address_length))]
+    pub fn check_address_length(self, address: u32, length: u64) -> Result<(), BadRange>
         ensures { result ≡ check_address_length self address length }
     {
         if self.is_accepted(address, length) {
-            RangeCheck::Fits
+            Ok(())
         } else {
-            RangeCheck::InvalidAddress(BadRange {
+            Err(BadRange {
                 last: last_address(address, length),
             })
         }
@@ -258,31 +249,26 @@ fn address_bytes_of(bytes: SFDPAddressBytes) -> u8
 }
 
 // The 4 KiB erase instruction, if there is a usable one.
-fn legacy_erase(p: FlashParams) -> SectorErase
+#[tactic(auto, unfolding(crate::specs::Updated::legacy_erase))]
+fn legacy_erase(p: FlashParams) -> Option<SectorErase>
     ensures { result ≡ legacy_erase p }
 {
-    if p.legacy_4kb_erase_supported {
-        if p.legacy_4kb_erase_inst == 0xFF {
-            SectorErase::Nothing
-        } else {
-            SectorErase::Smallest(4096, p.legacy_4kb_erase_inst)
-        }
-    } else {
-        SectorErase::Nothing
-    }
+    p.usable_4k().then_some(SectorErase {
+        size: 4096,
+        opcode: p.legacy_4kb_erase_inst,
+    })
 }
 
 // The erase instruction that the settings take from the parameters, if there is one.
-fn chosen_erase(p: FlashParams) -> SectorErase
+#[tactic(auto, unfolding(crate::specs::Updated::chosen_erase))]
+fn chosen_erase(p: FlashParams) -> Option<SectorErase>
     ensures { result ≡ chosen_erase p }
 {
-    match p.sector_erase() {
-        SectorErase::Smallest(size, opcode) => SectorErase::Smallest(size, opcode),
-        SectorErase::Nothing => legacy_erase(p),
-    }
+    p.sector_erase().or(legacy_erase(p))
 }
 
 // How far addresses of so many bytes reach; more than 4 count as 4.
+#[tactic(auto, using(crate::proofs::Laws::reach_four))]
 fn reach_of(bytes: u8) -> u64
     ensures { result ≡ reach bytes }
 {
@@ -296,21 +282,19 @@ fn reach_of(bytes: u8) -> u64
 }
 
 // Whether address plus length is at most a limit, found without the sum.
+#[tactic(auto, using(crate::proofs::Laws::sum_free, std::proofs::lemmas::Bool::Decides::nat_tests))]
 fn ends_within(address: u32, length: u64, limit: u64) -> bool
     ensures { result ≡ nat_le (address + length) limit }
 {
     let from = address as u64;
-    if from <= limit {
-        length <= limit - from
-    } else {
-        false
-    }
+    from <= limit && length <= limit - from
 }
 
 // address + length - 1 modulo 2^32.
+#[tactic(auto, unfolding(crate::specs::Ranges::last_address))]
 fn last_address(address: u32, length: u64) -> u32
     ensures { result ≡ last_address address length }
 {
     let low = (length % 0x1_0000_0000) as u32;
-    std::num::wrapping_sub_u32(std::num::wrapping_add_u32(address, low), 1)
+    address.wrapping_add(low).wrapping_sub(1)
 }

@@ -14,7 +14,7 @@ use borrow.Author.Tests.{eqb-true, eqb-false}
 use Rattle.dwords.specs.Dwords.{bits, bit, dword}
 use Rattle.dwords.proofs.Bytes.{bits_below, dword_below}
 use Rattle.sfdp.specs.Times.{ms, time_of, erase_time, page_time, byte_time, chip_time, maximum}
-use Rattle.sfdp.specs.Jesd216.{no_type, erase_type, erase_types, timing, raw_times, density, density_fits, size_fits, sizes_fit, extended, fields, params, accepted, read_table, read_header, of_table, of_header, read_area}
+use Rattle.sfdp.specs.Jesd216.{no_type, erase_type, erase_types, timing, raw_times, density, density_fits, size_fits, sizes_fit, extended, fields, params, accepted, read_table, read_header, of_header, read_area}
 use Rattle.sfdp.specs.Chosen.{capacity}
 use Rattle.sfdp.specs.declared.SFDPEraseInst.{SFDPEraseInst}
 use Rattle.sfdp.specs.declared.SFDPEraseInsts.{SFDPEraseInsts}
@@ -22,11 +22,9 @@ use Rattle.sfdp.specs.declared.SFDPTiming.{SFDPTiming}
 use Rattle.sfdp.specs.declared.SFDPRawTimes.{SFDPRawTimes}
 use Rattle.sfdp.specs.declared.FlashParams.{FlashParams}
 use Rattle.sfdp.specs.declared.SFDPParameterHeader.{SFDPParameterHeader}
-use Rattle.sfdp.specs.declared.ReadHeader.{ReadHeader}
-use Rattle.sfdp.specs.declared.ReadHeader.TheVariants as OfHeader
-use Rattle.sfdp.specs.declared.ReadArea.TheVariants as OfArea
-use Rattle.sfdp.specs.declared.ReadParams.{ReadParams}
-use Rattle.sfdp.specs.declared.ReadParams.TheVariants.{Params, InvalidSFDPParams}
+use Rattle.sfdp.specs.declared.SFDPError.{SFDPError}
+use Rattle.sfdp.specs.declared.SFDPError.TheVariants as Refusal
+use Rattle.std.specs.Prelude.{Result, Ok, Err}
 use Rattle.sfdp.proofs.Laws.{exponent_fits, density_fits_lem, first_fits, second_fits, sizes_8, sizes_9, dense}
 
 pub record Between (lo hi x : ℕ) : Type 0 where
@@ -318,15 +316,15 @@ params_read minor n t bytes h = record {
 }
 
 -- a table that is read was accepted, and gives its parameters
-pub table_params : (minor n : ℕ) (t : List ℕ) (p : FlashParams) → read_table minor n t ≡ Params p → (accepted n t ≡ true) × (p ≡ params minor n t)
+pub table_params : (minor n : ℕ) (t : List ℕ) (p : FlashParams) → read_table minor n t ≡ Ok p → (accepted n t ≡ true) × (p ≡ params minor n t)
 unfolding read_table
 table_params minor n t p h = by_test (accepted n t) refl h
   where
-    by_test : (b : Bool) → accepted n t ≡ b → cond b (Params (params minor n t)) InvalidSFDPParams ≡ Params p → (accepted n t ≡ true) × (p ≡ params minor n t)
+    by_test : (b : Bool) → accepted n t ≡ b → cond b (Ok (params minor n t)) (Err Refusal.InvalidSFDPParams) ≡ Ok p → (accepted n t ≡ true) × (p ≡ params minor n t)
     by_test true e q = (e, cc)
     by_test false e q = let z : ◌≡◌ {A = ℕ} 0 1 = cc in absurd (omega arith)
 
-pub table_read : (minor n : ℕ) (t : List ℕ) (p : FlashParams) → ((i : ℕ) → get_or t i 0 < 256) → read_table minor n t ≡ Params p → Read minor n t p
+pub table_read : (minor n : ℕ) (t : List ℕ) (p : FlashParams) → ((i : ℕ) → get_or t i 0 < 256) → read_table minor n t ≡ Ok p → Read minor n t p
 table_read minor n t p bytes h =
     let q : (accepted n t ≡ true) × (p ≡ params minor n t) = table_params minor n t p h in
     rw q.1 (params_read minor n t bytes q.0)
@@ -341,22 +339,17 @@ capacity_most r = omega (arith, r.dense_range.to)
 -- ---- a whole area: its first parameter header, and the table that this points to
 pub record AreaRead (area : List ℕ) (p : FlashParams) : Type 0 where
   pub header : SFDPParameterHeader
-  pub of_area : read_header area ≡ OfHeader.Header header
+  pub of_area : read_header area ≡ Ok header
   pub table : Read header.minor header.plen (drop header.ptp area) p
 
-pub area_read : (area : List ℕ) (p : FlashParams) → ((i : ℕ) → get_or area i 0 < 256) → read_area area ≡ OfArea.Params p → AreaRead area p
+pub area_read : (area : List ℕ) (p : FlashParams) → ((i : ℕ) → get_or area i 0 < 256) → read_area area ≡ Ok p → AreaRead area p
 unfolding read_area
 area_read area p bytes h = by_header (read_header area) refl h
   where
-    same : (r : ReadParams) → of_table r ≡ OfArea.Params p → r ≡ Params p
-    same (Params q) e = cc
-    same InvalidSFDPParams e = let z : ◌≡◌ {A = ℕ} 0 1 = cc in absurd (omega arith)
-
-    by_header : (r : ReadHeader) → read_header area ≡ r → of_header area r ≡ OfArea.Params p → AreaRead area p
-    by_header (OfHeader.Header q) e f = record {
+    by_header : (r : Result SFDPParameterHeader SFDPError) → read_header area ≡ r → of_header area r ≡ Ok p → AreaRead area p
+    by_header (Ok q) e f = record {
       header = q;
       of_area = e;
-      table = table_read q.minor q.plen (drop q.ptp area) p (λ (i : ℕ). rw (get_or-drop q.ptp area i 0) (bytes (q.ptp + i))) (same (read_table q.minor q.plen (drop q.ptp area)) f);
+      table = table_read q.minor q.plen (drop q.ptp area) p (λ (i : ℕ). rw (get_or-drop q.ptp area i 0) (bytes (q.ptp + i))) f;
     }
-    by_header OfHeader.NoSFDP e f = let z : ◌≡◌ {A = ℕ} 0 1 = cc in absurd (omega arith)
-    by_header OfHeader.InvalidSFDPHeader e f = let z : ◌≡◌ {A = ℕ} 0 1 = cc in absurd (omega arith)
+    by_header (Err x) e f = let z : ◌≡◌ {A = ℕ} 0 1 = cc in absurd (omega arith)

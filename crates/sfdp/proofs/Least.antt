@@ -1,5 +1,5 @@
 -- The erase type that is chosen: the smallest of the four, of one size the lowest opcode.
-use mathlib.Core.Path.{◌≡◌, refl, ◌∙◌}
+use mathlib.Core.Path.{◌≡◌, refl, ap, ◌∙◌}
 use mathlib.Core.Bool.{Bool, true, false, cond, ◌&&◌, ◌||◌}
 use mathlib.Core.List.Memᴰ
 use mathlib.Core.List.{List, [], ◌∷◌, Memᴰ}
@@ -10,10 +10,11 @@ use native.Mathlib.Omega.{arith}
 use lib.Dec.{eqb, ltb}
 use borrow.Author.Tests.{eqb-true, eqb-false, ltb-true, ltb-false, eq-eqb, ne_eqb}
 use Rattle.sfdp.proofs.Bounds.{Between, Power, Sized, Place, Places}
-use Rattle.sfdp.specs.Chosen.{missing, below, lesser, listed, smallest, sector_erase}
+use Rattle.sfdp.specs.Chosen.{missing, below, lesser, listed, smallest, size_and_opcode, sector_erase}
 use Rattle.sfdp.specs.declared.SFDPEraseInst.{SFDPEraseInst}
 use Rattle.sfdp.specs.declared.SFDPEraseInsts.{SFDPEraseInsts}
-use Rattle.sfdp.specs.declared.SectorErase.TheVariants.{Smallest, Nothing}
+use Rattle.sfdp.specs.declared.SectorErase.{SectorErase}
+use Rattle.std.specs.Prelude.{Some, None}
 
 -- y, if it has a size, is not before x: neither smaller nor of one size with a lower opcode
 pub record NotBefore (x y : SFDPEraseInst) : Type 0 where
@@ -169,23 +170,23 @@ pub smallest_none : (s : SFDPEraseInsts) → ((y : SFDPEraseInst) → Memᴰ y (
 smallest_none s h = eq-eqb (smallest s).size 0 (h (smallest s) (smallest_least s).member)
 
 -- ---- what the driver takes
-pub sector_some : (s : SFDPEraseInsts) (y : SFDPEraseInst) → Memᴰ y (listed s) → 0 < y.size → sector_erase s ≡ Smallest (smallest s).size (smallest s).opcode
+pub sector_some : (s : SFDPEraseInsts) (y : SFDPEraseInst) → Memᴰ y (listed s) → 0 < y.size → sector_erase s ≡ Some (size_and_opcode (smallest s))
 unfolding sector_erase
 sector_some s y m h = rw (smallest_some s y m h)
 
-pub sector_none : (s : SFDPEraseInsts) → ((y : SFDPEraseInst) → Memᴰ y (listed s) → y.size ≡ 0) → sector_erase s ≡ Nothing
+pub sector_none : (s : SFDPEraseInsts) → ((y : SFDPEraseInst) → Memᴰ y (listed s) → y.size ≡ 0) → sector_erase s ≡ None
 unfolding sector_erase
 sector_none s h = rw (smallest_none s h)
 
 -- where nothing is chosen, none has a size
-pub nothing_none : (s : SFDPEraseInsts) → sector_erase s ≡ Nothing → (y : SFDPEraseInst) → Memᴰ y (listed s) → y.size ≡ 0
+pub nothing_none : (s : SFDPEraseInsts) → sector_erase s ≡ None → (y : SFDPEraseInst) → Memᴰ y (listed s) → y.size ≡ 0
 nothing_none s h y m = by_test (eqb y.size 0) refl
   where
     by_test : (b : Bool) → eqb y.size 0 ≡ b → y.size ≡ 0
     by_test true e = eqb-true y.size 0 e
     by_test false e =
         let n : y.size ≡ 0 → ⊥ = eqb-false y.size 0 e in
-        let q : sector_erase s ≡ Smallest (smallest s).size (smallest s).opcode = sector_some s y m (omega arith) in
+        let q : sector_erase s ≡ Some (size_and_opcode (smallest s)) = sector_some s y m (omega arith) in
         let z : ◌≡◌ {A = ℕ} 0 1 = cc in
         absurd (omega arith)
 
@@ -195,16 +196,17 @@ pub record Chosen (s : SFDPEraseInsts) (size opcode : ℕ) : Type 0 where
   pub of_opcode : (smallest s).opcode ≡ opcode
   pub some_size : 0 < size
 
-pub sector_chosen : (s : SFDPEraseInsts) (size opcode : ℕ) → sector_erase s ≡ Smallest size opcode → Chosen s size opcode
+pub sector_chosen : (s : SFDPEraseInsts) (e : SectorErase) → sector_erase s ≡ Some e → Chosen s e.size e.opcode
 unfolding sector_erase
-sector_chosen s size opcode h = by_test (missing (smallest s)) refl h
+sector_chosen s e h = by_test (missing (smallest s)) refl h
   where
-    by_test : (b : Bool) → missing (smallest s) ≡ b → cond b Nothing (Smallest (smallest s).size (smallest s).opcode) ≡ Smallest size opcode → Chosen s size opcode
-    by_test true e q = let z : ◌≡◌ {A = ℕ} 0 1 = cc in absurd (omega arith)
-    by_test false e q =
-        let f : (smallest s).size ≡ size = cc in
-        let g : (smallest s).size ≡ 0 → ⊥ = eqb-false (smallest s).size 0 e in
-        record { of_size = f; of_opcode = cc; some_size = omega arith }
+    by_test : (b : Bool) → missing (smallest s) ≡ b → cond b None (Some (size_and_opcode (smallest s))) ≡ Some e → Chosen s e.size e.opcode
+    by_test true m q = let z : ◌≡◌ {A = ℕ} 0 1 = cc in absurd (omega arith)
+    by_test false m q =
+        let f : size_and_opcode (smallest s) ≡ e = cc in
+        let g : (smallest s).size ≡ 0 → ⊥ = eqb-false (smallest s).size 0 m in
+        let size : (smallest s).size ≡ e.size = ap (λ (x : SectorErase). x.size) f in
+        record { of_size = size; of_opcode = ap (λ (x : SectorErase). x.opcode) f; some_size = omega (arith, size) }
 
 -- ---- with the bounds of an accepted table
 pub place_of : {s : SFDPEraseInsts} → Places s → (y : SFDPEraseInst) → Memᴰ y (listed s) → Place y

@@ -1,11 +1,9 @@
 -- What the driver takes from the parameters: the capacity, and the smallest erase type.
-use Rattle.std.specs.Prelude.{ℕ, ◌/◌, List, [], ◌∷◌, Bool, cond, ◌&&◌, ◌||◌, eqb, ltb}
-use Rattle.sfdp.specs.Jesd216.{no_type}
+use Rattle.std.specs.Prelude.{ℕ, ◌/◌, List, [], ◌∷◌, Bool, cond, ◌&&◌, ◌||◌, eqb, ltb, Option, Some, None}
 use Rattle.sfdp.specs.declared.SFDPEraseInst.{SFDPEraseInst}
 use Rattle.sfdp.specs.declared.SFDPEraseInsts.{SFDPEraseInsts}
 use Rattle.sfdp.specs.declared.FlashParams.{FlashParams}
 use Rattle.sfdp.specs.declared.SectorErase.{SectorErase}
-use Rattle.sfdp.specs.declared.SectorErase.TheVariants.{Smallest, Nothing}
 
 -- density / 8 rounded down
 abbrev pub capacity : FlashParams → ℕ
@@ -30,5 +28,9 @@ listed s = s.inst1 ∷ s.inst2 ∷ s.inst3 ∷ s.inst4 ∷ []
 unfoldable pub smallest : SFDPEraseInsts → SFDPEraseInst
 smallest s = lesser (lesser (lesser s.inst1 s.inst2) s.inst3) s.inst4
 
-unfoldable pub sector_erase : SFDPEraseInsts → SectorErase
-sector_erase s = cond (missing (smallest s)) Nothing (Smallest (smallest s).size (smallest s).opcode)
+-- its size and opcode
+abbrev pub size_and_opcode : SFDPEraseInst → SectorErase
+size_and_opcode i = record { size = i.size; opcode = i.opcode }
+
+unfoldable pub sector_erase : SFDPEraseInsts → Option SectorErase
+sector_erase s = cond (missing (smallest s)) None (Some (size_and_opcode (smallest s)))

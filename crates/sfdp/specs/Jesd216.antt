@@ -1,5 +1,5 @@
 -- JESD216's basic parameter table as docs/SCOPE.md, SFDP reading, gives it: dword, bits, meaning, in the standard's order.
-use Rattle.std.specs.Prelude.{ℕ, ◌+◌, ◌*◌, ◌^◌, List, Bool, true, false, cond, ◌&&◌, ◌||◌, drop, eqb, ltb, leb}
+use Rattle.std.specs.Prelude.{ℕ, ◌+◌, ◌*◌, ◌^◌, List, Bool, true, false, cond, ◌&&◌, ◌||◌, drop, eqb, ltb, leb, Result, Ok, Err}
 use Rattle.dwords.specs.Dwords.{byte_at, dword, bits, bit}
 use Rattle.sfdp.specs.Times.{erase_time, page_time, byte_time, chip_time, maximum}
 use Rattle.sfdp.specs.declared.SFDPAddressBytes.{SFDPAddressBytes}
@@ -12,12 +12,9 @@ use Rattle.sfdp.specs.declared.SFDPTiming.{SFDPTiming}
 use Rattle.sfdp.specs.declared.SFDPRawTimes.{SFDPRawTimes}
 use Rattle.sfdp.specs.declared.FlashParams.{FlashParams}
 use Rattle.sfdp.specs.declared.SFDPParameterHeader.{SFDPParameterHeader}
-use Rattle.sfdp.specs.declared.ReadHeader.{ReadHeader}
-use Rattle.sfdp.specs.declared.ReadHeader.TheVariants as OfHeader
-use Rattle.sfdp.specs.declared.ReadParams.{ReadParams}
-use Rattle.sfdp.specs.declared.ReadParams.TheVariants as OfTable
-use Rattle.sfdp.specs.declared.ReadArea.{ReadArea}
-use Rattle.sfdp.specs.declared.ReadArea.TheVariants as OfArea
+use Rattle.sfdp.specs.declared.SFDPError.{SFDPError}
+use Rattle.sfdp.specs.declared.SFDPError.TheVariants as Refusal
+use Rattle.sfdp.specs.declared.TableDwords.{TableDwords}
 
 -- ---- the 8-byte header: the signature 53 46 44 50, and the count of parameter headers, byte 6 plus 1
 unfoldable pub signed : List ℕ → Bool
@@ -41,11 +38,11 @@ unfoldable pub basic : SFDPParameterHeader → Bool
 basic p = eqb p.parameter_id 0xFF00 && eqb p.major 1
 
 -- refusals in order: 12, then 3
-unfoldable pub read_header : List ℕ → ReadHeader
+unfoldable pub read_header : List ℕ → Result SFDPParameterHeader SFDPError
 read_header h =
     cond (signed h)
-    (cond (basic (parameter_header h 8)) (OfHeader.Header (parameter_header h 8)) OfHeader.InvalidSFDPHeader)
-    OfHeader.NoSFDP
+    (cond (basic (parameter_header h 8)) (Ok (parameter_header h 8)) (Err Refusal.InvalidSFDPHeader))
+    (Err Refusal.NoSFDP)
 
 -- ---- dword 1
 unfoldable pub address_bytes : ℕ → SFDPAddressBytes
@@ -144,6 +141,19 @@ fields minor known d1 d2 d8 d9 d10 d11 d14 d16 = record {
   enter_4byte_b7 = cond known (bit d16 24) false;
 }
 
+-- the dwords of a table that they come from
+abbrev pub table_dwords : List ℕ → TableDwords
+table_dwords t = record {
+  d1 = dword t 1;
+  d2 = dword t 2;
+  d8 = dword t 8;
+  d9 = dword t 9;
+  d10 = dword t 10;
+  d11 = dword t 11;
+  d14 = dword t 14;
+  d16 = dword t 16;
+}
+
 unfoldable pub params : ℕ → ℕ → List ℕ → FlashParams
 params minor n t =
     fields minor (extended minor n) (dword t 1) (dword t 2) (dword t 8) (dword t 9) (dword t 10) (dword t 11) (dword t 14) (dword t 16)
@@ -165,25 +175,23 @@ density_fits d = cond (bit d 31) (ltb (bits d 30 0) 64) true
 unfoldable pub accepted : ℕ → List ℕ → Bool
 accepted n t = leb 9 n && (sizes_fit (dword t 8) && (sizes_fit (dword t 9) && density_fits (dword t 2)))
 
-unfoldable pub read_table : ℕ → ℕ → List ℕ → ReadParams
-read_table minor n t = cond (accepted n t) (OfTable.Params (params minor n t)) OfTable.InvalidSFDPParams
+unfoldable pub read_table : ℕ → ℕ → List ℕ → Result FlashParams SFDPError
+read_table minor n t = cond (accepted n t) (Ok (params minor n t)) (Err Refusal.InvalidSFDPParams)
 
 -- ---- a whole area: the header, then the table that it points to; refusals in order 12, 3, 4
-abbrev pub of_table : ReadParams → ReadArea
-of_table (OfTable.Params p) = OfArea.Params p
-of_table OfTable.InvalidSFDPParams = OfArea.InvalidSFDPParams
+abbrev pub of_header : List ℕ → Result SFDPParameterHeader SFDPError → Result FlashParams SFDPError
+of_header area (Ok p) = read_table p.minor p.plen (drop p.ptp area)
+of_header area (Err e) = Err e
 
-abbrev pub of_header : List ℕ → ReadHeader → ReadArea
-of_header area (OfHeader.Header p) = of_table (read_table p.minor p.plen (drop p.ptp area))
-of_header area OfHeader.NoSFDP = OfArea.NoSFDP
-of_header area OfHeader.InvalidSFDPHeader = OfArea.InvalidSFDPHeader
-
-unfoldable pub read_area : List ℕ → ReadArea
+unfoldable pub read_area : List ℕ → Result FlashParams SFDPError
 read_area area = of_header area (read_header area)
 
 -- the answer numbers
-abbrev pub answer_number : ReadArea → ℕ
-answer_number (OfArea.Params p) = 0
-answer_number OfArea.NoSFDP = 12
-answer_number OfArea.InvalidSFDPHeader = 3
-answer_number OfArea.InvalidSFDPParams = 4
+abbrev pub error_number : SFDPError → ℕ
+error_number Refusal.NoSFDP = 12
+error_number Refusal.InvalidSFDPHeader = 3
+error_number Refusal.InvalidSFDPParams = 4
+
+abbrev pub answer_number : Result FlashParams SFDPError → ℕ
+answer_number (Ok p) = 0
+answer_number (Err e) = error_number e

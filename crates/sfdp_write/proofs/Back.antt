@@ -6,13 +6,13 @@ use mathlib.Core.Bool.{Bool, true, cond, ◌||◌}
 use mathlib.Core.List.{List, ◌++◌}
 use lib.Dec.{eqb, ltb}
 use borrow.Author.Tests.{ltb-true, eqb-true}
+use Rattle.std.specs.Prelude.{Ok}
 use Rattle.dwords.specs.Dwords.{byte_at, le32, dword, bits, bit}
 use Rattle.sfdp.specs.Times.{page_time, byte_time, chip_time, maximum}
 use Rattle.sfdp.specs.Jesd216.{address_bytes, erase_type, erase_types, timing, raw_times, volatility, extended, fields, params, size_fits, sizes_fit, accepted, read_table}
 use Rattle.sfdp.specs.declared.SFDPEraseInst.{SFDPEraseInst}
 use Rattle.sfdp.specs.declared.SFDPRawTimes.{SFDPRawTimes}
 use Rattle.sfdp.specs.declared.FlashParams.{FlashParams}
-use Rattle.sfdp.specs.declared.ReadParams.TheVariants as OfTable
 use Rattle.sfdp.proofs.Laws.{left_of, right_of}
 use Rattle.sfdp_write.specs.Table.{mark, exponent, address_code, size_field, volatility_code, dword1, dword2, types_dword, dword10, times_dword, dword11, dword14, dword16, dwords_of, bytes_of, table_of}
 use Rattle.sfdp_write.specs.Form.{density_formed, time_formed, type_formed, types_formed, raw_formed, timing_formed, page_formed, first_formed, rest_formed, formed}
@@ -408,6 +408,6 @@ module _ (p : FlashParams) (h : formed p ≡ true) (wide : Widths p) where
     unfolding accepted
     accepted_back = rw (at8, at9, at2, fits8, fits9, dense.fits)
 
-    pub table_back : read_table 6 16 t ≡ OfTable.Params (minor6 p)
+    pub table_back : read_table 6 16 t ≡ Ok (minor6 p)
     unfolding read_table
     table_back = rw (accepted_back, params_back)

@@ -3,7 +3,7 @@ use Prim.Native.Nat.{ℕ, zero, suc, ◌+◌, ◌-◌, ◌%◌, ◌^◌, ◌≤�
 use native.Mathlib.Nat.{mod-eq_of_lt}
 use native.Mathlib.Omega.{arith}
 use mathlib.Core.Path.{◌≡◌, refl, sym, ap, ◌∙◌}
-use mathlib.Core.Bool.{Bool, true, false, cond, ◌||◌}
+use mathlib.Core.Bool.{Bool, true, false, cond, ◌||◌, false≢true}
 use mathlib.Core.Logic.{◌⊎◌, inl, inr}
 use lib.Dec.{eqb, ltb, leb}
 use lib.Pow.{pow_pos, pow_mono}
@@ -20,9 +20,6 @@ use Rattle.sfdp_write.specs.Table.{placed, mark, exponent, address_code, volatil
 use Rattle.sfdp_write.specs.Form.{power, density_formed, page_formed}
 use Rattle.sfdp_write.proofs.Powers.{zeros_power, power_is}
 use Rattle.sfdp_write.proofs.Fields.{small_below, small_31, large_below, large_31, large_30_0}
-
-pub false_true : {A : Type 0} → false ≡ true → A
-false_true e = let z : ◌≡◌ {A = ℕ} 0 1 = cc in absurd (omega arith)
 
 -- ---- marks
 mark_back : (b : Bool) → eqb (mark b % 2) 1 ≡ b
@@ -72,7 +69,7 @@ unfolding address_code address_bytes
 address_back Address.Three h = refl
 address_back Address.ThreeOrFour h = refl
 address_back Address.Four h = refl
-address_back Address.Reserved h = false_true h
+address_back Address.Reserved h = absurd (false≢true h)
 
 pub address_formed : (a : SFDPAddressBytes) → (a ≡ Address.Reserved → ⊥) → ltb (address_code a) 3 ≡ true
 unfolding address_code
@@ -83,7 +80,7 @@ address_formed Address.Reserved h = absurd (h refl)
 
 pub address_free : (a : SFDPAddressBytes) → ltb (address_code a) 3 ≡ true → a ≡ Address.Reserved → ⊥
 unfolding address_code
-address_free a h e = let r : ltb (address_code a) 3 ≡ false = ap (λ (x : SFDPAddressBytes). ltb (address_code x) 3) e in false_true (sym r ∙ h)
+address_free a h e = let r : ltb (address_code a) 3 ≡ false = ap (λ (x : SFDPAddressBytes). ltb (address_code x) 3) e in absurd (false≢true (sym r ∙ h))
 
 pub address_other : (a : SFDPAddressBytes) → ltb (address_code a) 3 ≡ true → address_code a % 4 ≡ 3 → ⊥
 address_other a h e = omega (arith, ltb-true (address_code a) 3 h)
@@ -109,7 +106,7 @@ status_back Status1.Volatile06 h = refl
 status_back Status1.Volatile50 h = refl
 status_back Status1.NonVolatile06Volatile50 h = refl
 status_back Status1.Mixed06 h = refl
-status_back Status1.Reserved h = false_true h
+status_back Status1.Reserved h = absurd (false≢true h)
 
 pub status_formed : (s : SFDPStatus1Volatility) → (s ≡ Status1.Reserved → ⊥) → ltb 0 (volatility_code s) ≡ true
 unfolding volatility_code
@@ -122,7 +119,7 @@ status_formed Status1.Reserved h = absurd (h refl)
 
 pub status_free : (s : SFDPStatus1Volatility) → ltb 0 (volatility_code s) ≡ true → s ≡ Status1.Reserved → ⊥
 unfolding volatility_code
-status_free s h e = let r : ltb 0 (volatility_code s) ≡ false = ap (λ (x : SFDPStatus1Volatility). ltb 0 (volatility_code x)) e in false_true (sym r ∙ h)
+status_free s h e = let r : ltb 0 (volatility_code s) ≡ false = ap (λ (x : SFDPStatus1Volatility). ltb 0 (volatility_code x)) e in absurd (false≢true (sym r ∙ h))
 
 pub status_again : (v : ℕ) → (volatility v ≡ Status1.Reserved → ⊥) → volatility_code (volatility v) ≡ v
 unfolding volatility_code volatility

@@ -3,7 +3,7 @@
 use Prim.Native.Nat.{ℕ, zero, suc, ◌≤◌, ◌<◌}
 use native.Mathlib.Omega.{arith}
 use mathlib.Core.Path.{◌≡◌, refl}
-use mathlib.Core.Bool.{true, false}
+use mathlib.Core.Bool.{true, false, false≢true}
 use mathlib.Core.List.{List, [], ◌∷◌, ◌++◌}
 use mathlib.Core.Logic.{inl, ⊎_elim}
 use lib.Count.{count_trailing_zeros}
@@ -11,18 +11,17 @@ use lib.Dec.{ltb}
 use lib.ListN.{length, get_or, drop}
 use lib.Pow.{are_bytes}
 use borrow.Author.Tests.{ltb-true}
+use Rattle.std.specs.Prelude.{Ok}
 use Rattle.dwords.specs.Dwords.{byte_at, le32, dword, bit}
 use Rattle.sfdp.specs.Times.{erase_time, page_time, byte_time, chip_time}
 use Rattle.sfdp.specs.Jesd216.{address_bytes, density, erase_type, erase_types, timing, raw_times, volatility, extended, fields, no_params, params, size_fits, sizes_fit, density_fits, accepted, read_table}
 use Rattle.sfdp.specs.declared.SFDPStatus1Volatility.TheVariants as Status1
-use Rattle.sfdp.specs.declared.ReadParams.TheVariants as OfTable
 use Rattle.sfdp.proofs.Laws.{left_of, right_of}
 use Rattle.sfdp_write.specs.Table.{address_code, size_field, volatility_code, dword1, dword2, types_dword, dword10, dword11, dword14, dword16, dwords_of, bytes_of, table_of}
 use Rattle.sfdp_write.specs.Form.{density_formed, time_formed, none_formed, one_formed, type_formed, types_formed, raw_formed, timing_formed, page_formed, first_formed, rest_formed, formed}
 use Rattle.sfdp_write.specs.Written.{header, answer_to, written}
-use Rattle.sfdp_write.specs.declared.WriteTable.TheVariants.{Done}
 use Rattle.sfdp_write.specs.Promises.{AbsentZero, Plain}
-use Rattle.sfdp_write.proofs.Codes.{false_true, status_free}
+use Rattle.sfdp_write.proofs.Codes.{status_free}
 use Rattle.sfdp_write.proofs.Promised.{writes_again}
 
 -- MX66L1G45G
@@ -110,7 +109,7 @@ alone_plain b0 b1 b2 b3 bytes above = record {
 -- 128 MiB, stored as a number less 1
 pub cleared_plain : Plain cleared
 unfolding density le32 byte_at
-cleared_plain = alone_plain 0xFF 0xFF 0xFF 0x3F refl (λ (e : false ≡ true). false_true e)
+cleared_plain = alone_plain 0xFF 0xFF 0xFF 0x3F refl (λ (e : false ≡ true). absurd (false≢true e))
 
 -- 512 MiB, 2 to the power of 32 bits, stored by its exponent
 abbrev large : List ℕ
@@ -121,12 +120,12 @@ unfolding density le32 byte_at
 large_plain = alone_plain 0x20 0x00 0x00 0x80 refl (λ (e : true ≡ true). omega arith)
 
 -- so the theorem speaks of both
-large_reads : read_table 6 16 large ≡ OfTable.Params (params 6 16 large)
+large_reads : read_table 6 16 large ≡ Ok (params 6 16 large)
 unfolding read_table accepted sizes_fit size_fits density_fits le32 byte_at
 large_reads = refl
 
 pub large_again : (room : List ℕ) → 80 ≤ length room
-    → (answer_to (params 6 16 large) room ≡ Done) × (written (params 6 16 large) room ≡ header ++ (large ++ drop 80 room))
+    → (answer_to (params 6 16 large) room ≡ Ok tt) × (written (params 6 16 large) room ≡ header ++ (large ++ drop 80 room))
 large_again room h = writes_again large (params 6 16 large) room large_plain large_reads h
 
 -- ---- at the limits

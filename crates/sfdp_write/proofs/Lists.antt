@@ -1,36 +1,18 @@
--- Units of times, dwords as bytes, and a buffer that is filled from the front.
+-- Dwords as bytes, and a buffer that is filled from the front.
 use Prim.Native.Nat.{ℕ, zero, suc, ◌+◌, ◌*◌, ◌/◌, ◌%◌, ◌^◌, ◌<◌, ◌≤◌}
-use native.Mathlib.Nat.{mul-le-mul, div-div-eq-div-mul}
+use native.Mathlib.Nat.{div-div-eq-div-mul}
 use native.Mathlib.Omega.{arith}
+use Rattle.std.specs.Int.{w32, to_le_bytes}
+use Rattle.std.proofs.lemmas.List.{take_at, drop_at, drop-drop, append_assoc}
+use borrow.Rule.Slice.PartMut.{put_mid}
 use mathlib.Core.Path.{◌≡◌, refl, sym, ap, ◌∙◌}
-use mathlib.Core.Bool.{true}
 use mathlib.Core.List.{List, [], ◌∷◌, ◌++◌}
-use lib.Dec.{ltb}
-use lib.ListN.{length, get_or, set, take, drop, drop_of_length-le}
-use lib.Seq.{drop-cons, take-suc, set_at, append_snoc, length-take-le, take_all}
-use borrow.Author.Tests.{lt-ltb}
+use lib.ListN.{length, get_or, take, drop, drop_of_length-le}
+use lib.Seq.{drop-cons, take-suc, length-take-le}
 use Rattle.dwords.specs.Dwords.{le32, bits}
 use Rattle.dwords.proofs.Bytes.{bits_below, byte_in}
 use Rattle.sfdp.proofs.Laws.{lowest}
 use Rattle.sfdp_write.specs.Table.{bytes_of}
-
--- ---- numbers other than 0
-pub positive : {n : ℕ} → (n ≡ 0 → ⊥) → ltb 0 n ≡ true
-positive {n} h = lt-ltb 0 n (omega arith)
-
--- ---- times
-pub times_fit : (k u : ℕ) → k < 32 → u ≤ 64000000 → (k + 1) * u < 2 ^ 32
-times_fit k u h l =
-    let small : k + 1 ≤ 32 = omega arith in
-    let m : (k + 1) * u ≤ 32 * 64000000 = mul-le-mul small l in
-    omega arith
-
-pub two_units : (a b u : ℕ) → get_or (a ∷ b ∷ 0 ∷ 0 ∷ []) u 0 ≡ get_or (a ∷ b ∷ []) u 0
-two_units a b zero = refl
-two_units a b (suc zero) = refl
-two_units a b (suc (suc zero)) = refl
-two_units a b (suc (suc (suc zero))) = refl
-two_units a b (suc (suc (suc (suc u)))) = refl
 
 -- ---- dwords as bytes
 pub length_bytes : (l : List ℕ) → length (bytes_of l) ≡ 4 * length l
@@ -46,35 +28,6 @@ bytes_below (x ∷ l) (suc zero) = bits_below x 15 8
 bytes_below (x ∷ l) (suc (suc zero)) = bits_below x 23 16
 bytes_below (x ∷ l) (suc (suc (suc zero))) = bits_below x 31 24
 bytes_below (x ∷ l) (suc (suc (suc (suc i)))) = bytes_below l i
-
--- byte k of dword i
-four_on : (i k : ℕ) → 4 * suc i + k ≡ suc (suc (suc (suc (4 * i + k))))
-four_on i k = omega arith
-
-module _ (k : ℕ) (f : ℕ → ℕ) (empty : f 0 ≡ 0) (head : (x : ℕ) (l : List ℕ) → get_or (bytes_of (x ∷ l)) k 0 ≡ f x) where
-  at_byte : (l : List ℕ) (i : ℕ) → get_or (bytes_of l) (4 * i + k) 0 ≡ f (get_or l i 0)
-  unfolding bytes_of
-  at_byte [] i = sym empty
-  at_byte (x ∷ l) zero = let e : 4 * 0 + k ≡ k = omega arith in rw e (head x l)
-  at_byte (x ∷ l) (suc i) = rw (four_on i k) (at_byte l i)
-
-pub bytes_at0 : (l : List ℕ) (i : ℕ) → get_or (bytes_of l) (4 * i) 0 ≡ bits (get_or l i 0) 7 0
-unfolding bytes_of
-bytes_at0 l i =
-    let e : 4 * i ≡ 4 * i + 0 = omega arith in
-    rw e (at_byte 0 (λ (x : ℕ). bits x 7 0) refl (λ (x : ℕ) (l : List ℕ). refl) l i)
-
-pub bytes_at1 : (l : List ℕ) (i : ℕ) → get_or (bytes_of l) (4 * i + 1) 0 ≡ bits (get_or l i 0) 15 8
-unfolding bytes_of
-bytes_at1 l i = at_byte 1 (λ (x : ℕ). bits x 15 8) refl (λ (x : ℕ) (l : List ℕ). refl) l i
-
-pub bytes_at2 : (l : List ℕ) (i : ℕ) → get_or (bytes_of l) (4 * i + 2) 0 ≡ bits (get_or l i 0) 23 16
-unfolding bytes_of
-bytes_at2 l i = at_byte 2 (λ (x : ℕ). bits x 23 16) refl (λ (x : ℕ) (l : List ℕ). refl) l i
-
-pub bytes_at3 : (l : List ℕ) (i : ℕ) → get_or (bytes_of l) (4 * i + 3) 0 ≡ bits (get_or l i 0) 31 24
-unfolding bytes_of
-bytes_at3 l i = at_byte 3 (λ (x : ℕ). bits x 31 24) refl (λ (x : ℕ) (l : List ℕ). refl) l i
 
 -- a dword of its four bytes
 pub of_bytes : (d : ℕ) → d < 2 ^ 32 → bits d 7 0 + 256 * (bits d 15 8 + 256 * (bits d 23 16 + 256 * bits d 31 24)) ≡ d
@@ -134,28 +87,28 @@ bytes_up (suc n) i t f h =
     ∷ bytes_up n (i + 4) t f (omega arith) k)
     ∙ sym (four_bytes t i (omega arith)))
 
--- ---- a buffer d whose first n bytes are those of s
-fill_more : (d s : List ℕ) (n : ℕ) → n < length d → n < length s
-    → set (take n s ++ drop n d) n (get_or s n 0) ≡ take (suc n) s ++ drop (suc n) d
-fill_more d s n h l =
-    let k : length (take n s) ≡ n = length-take-le n s (omega arith) in
-    ap (λ (r : List ℕ). set (take n s ++ r) n (get_or s n 0)) (drop-cons d n 0 h)
-    ∙ set_at (take n s) (get_or d n 0) (drop (suc n) d) (get_or s n 0) n k
-    ∙ sym (append_snoc (take n s) (get_or s n 0) (drop (suc n) d))
-    ∙ ap (λ (r : List ℕ). r ++ drop (suc n) d) (sym (take-suc s n 0 l))
+-- ---- a buffer whose front has the bytes of the first i dwords
 
--- after four stores
-pub fill_four : (d s : List ℕ) (n : ℕ) → n + 3 < length d → n + 3 < length s
-    → set (set (set (set (take n s ++ drop n d) n (get_or s n 0)) (n + 1) (get_or s (n + 1) 0)) (n + 2) (get_or s (n + 2) 0)) (n + 3) (get_or s (n + 3) 0)
-    ≡ take (n + 4) s ++ drop (n + 4) d
-fill_four d s n h e =
-    let e1 : n + 1 ≡ suc n = omega arith in
-    let e2 : n + 2 ≡ suc (suc n) = omega arith in
-    let e3 : n + 3 ≡ suc (suc (suc n)) = omega arith in
-    let e4 : n + 4 ≡ suc (suc (suc (suc n))) = omega arith in
-    rw (e1, e2, e3, e4, fill_more d s n (omega arith) (omega arith), fill_more d s (suc n) (omega arith) (omega arith), fill_more d s (suc (suc n)) (omega arith) (omega arith))
-    (fill_more d s (suc (suc (suc n))) (omega arith) (omega arith))
+-- the bytes of a dword, as the code gives them
+pub four_of : (d : ℕ) → bytes_of (d ∷ []) ≡ to_le_bytes w32 d
+unfolding bytes_of
+four_of d = rw lowest refl
 
--- after all
-pub fill_all : (d s : List ℕ) (n : ℕ) → length s ≡ n → take n s ++ drop n d ≡ s ++ drop n d
-fill_all d s n e = ap (λ (r : List ℕ). r ++ drop n d) (take_all n s (omega arith))
+bytes_joined : (a b : List ℕ) → bytes_of (a ++ b) ≡ bytes_of a ++ bytes_of b
+unfolding bytes_of
+bytes_joined [] b = refl
+bytes_joined (x ∷ a) b = ap (λ (l : List ℕ). bits x 7 0 ∷ bits x 15 8 ∷ bits x 23 16 ∷ bits x 31 24 ∷ l) (bytes_joined a b)
+
+bytes_more : (w : List ℕ) (i : ℕ) → i < length w → bytes_of (take (i + 1) w) ≡ bytes_of (take i w) ++ bytes_of (get_or w i 0 ∷ [])
+bytes_more w i h =
+    let e : i + 1 ≡ suc i = omega arith in
+    rw (e, take-suc w i 0 h) (bytes_joined (take i w) (get_or w i 0 ∷ []))
+
+-- after one more
+pub store_more : (w room ys : List ℕ) (i k : ℕ) → i < length w → k ≡ 4 → ys ≡ bytes_of (get_or w i 0 ∷ [])
+    → put_mid (4 * i) k (bytes_of (take i w) ++ drop (4 * i) room) ys ≡ bytes_of (take (i + 1) w) ++ drop (4 * (i + 1)) room
+store_more w room ys i k h four e =
+    let front = bytes_of (take i w) in
+    let n : length front ≡ 4 * i = omega (arith, length_bytes (take i w), length-take-le i w (omega arith)) in
+    let past : 4 * (i + 1) ≡ 4 * i + 4 = omega arith in
+    rw (four, e, take_at front (drop (4 * i) room) (4 * i) n, drop_at front (drop (4 * i) room) (4 * i) n, bytes_more w i h, past, drop-drop 4 (4 * i) room, append_assoc)

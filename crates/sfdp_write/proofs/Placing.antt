@@ -2,18 +2,17 @@
 use Prim.Native.Nat.{ℕ, ◌+◌, ◌-◌, ◌*◌, ◌/◌, ◌%◌, ◌^◌, ◌≤◌, ◌<◌}
 use native.Mathlib.Nat.{mod-mod, mod-lt, mul-one, div-one}
 use native.Mathlib.Omega.{arith}
-use mathlib.Core.Path.{◌≡◌, ap, ◌∙◌}
+use mir.Val.{bool_byte}
+use mathlib.Core.Bool.{Bool, true, false}
+use mathlib.Core.Path.{◌≡◌, refl, ap, ◌∙◌}
 use lib.Pow.{mod-pow-add, pow_pos, shl_exact}
-use Rattle.sfdp.proofs.Laws as Laws
-use Rattle.sfdp_write.specs.Table.{placed}
+use Rattle.std.proofs.lemmas.Nat.{one_shl}
+use Rattle.sfdp_write.specs.Table.{placed, mark}
 
 -- ---- placing by shifts
 module _ (hi lo : ℕ) (down : lo ≤ hi) (dword : hi < 32) (narrow : hi - lo < 31) where
   mask : (1 * 2 ^ (hi - lo + 1)) % 2 ^ 32 ≡ 2 ^ (hi - lo + 1)
-  mask = Laws.shifted (hi - lo + 1) 32 (omega arith)
-
-  pub mask_some : 0 < (1 * 2 ^ (hi - lo + 1)) % 2 ^ 32
-  mask_some = rw mask (pow_pos (hi - lo + 1))
+  mask = one_shl (hi - lo + 1) 32 (omega arith)
 
   pub shifted : (x : ℕ) → (x % ((1 * 2 ^ (hi - lo + 1)) % 2 ^ 32) * 2 ^ lo) % 2 ^ 32 ≡ placed hi lo x
   shifted x = rw mask (shl_exact (hi - lo + 1) lo 32 (mod-lt x (pow_pos (hi - lo + 1))) (omega arith))
@@ -53,3 +52,8 @@ module _ (d lo j : ℕ) where
   skip {x} e h =
       let w : d % 2 ^ lo + 0 * 2 ^ lo ≡ d % 2 ^ (j + 1 + lo) = rw e at (wider d lo j) in
       omega arith
+
+-- ---- a yes or no as a number
+pub as_mark : (b : Bool) → bool_byte b ≡ mark b
+as_mark true = refl
+as_mark false = refl

@@ -8,18 +8,11 @@ use lib.Dec.{eqb}
 use lib.Count.{ones, count_trailing_zeros, under, ones_step, ones_cat}
 use lib.Pow.{pow_pos}
 use borrow.Author.Tests.{eqb-true, eqb-false, eq-eqb, ne_eqb}
+use Rattle.std.proofs.lemmas.Nat.{zero_from_ones}
 use Rattle.sfdp_write.specs.Form.{power}
 
 half_below : (w n : ℕ) → n < 2 ^ suc w → n / 2 < 2 ^ w
 half_below w n h = let e : 2 ^ suc w ≡ 2 ^ w * 2 = pow-suc 2 w in omega arith
-
--- no set bit
-none_set : (w n : ℕ) → n < 2 ^ w → ones n ≡ 0 → n ≡ 0
-none_set zero n h e = omega arith
-none_set (suc w) n h e =
-    let s : n % 2 + ones (n / 2) ≡ 0 = sym (ones_step n) ∙ e in
-    let r : n / 2 ≡ 0 = none_set w (n / 2) (half_below w n h) (omega arith) in
-    omega arith
 
 -- one set bit: the number is 2 to the power of the zeros below it
 pub one_set : (w n : ℕ) → n < 2 ^ w → ones n ≡ 1 → 2 ^ count_trailing_zeros w n ≡ n
@@ -40,7 +33,7 @@ one_set (suc w) n h e = by_low (n % 2) refl (λ (q : ones (n / 2) ≡ 1). one_se
         let k : 2 ^ count_trailing_zeros w (n / 2) * 2 ≡ n = omega arith in
         pow-suc 2 (count_trailing_zeros w (n / 2)) ∙ k
     by_low (suc b) q half =
-        let r : n / 2 ≡ 0 = none_set w (n / 2) (half_below w n h) (omega (arith, s)) in
+        let r : n / 2 ≡ 0 = zero_from_ones (n / 2) (omega (arith, s)) in
         omega arith
 
 ones_power : (k : ℕ) → ones (2 ^ k) ≡ 1

@@ -2,27 +2,27 @@
 use Prim.Native.Nat.{ℕ, ◌≤◌, ◌<◌}
 use native.Mathlib.Omega.{arith}
 use mathlib.Core.Path.{◌≡◌, refl, sym, ap, ◌∙◌, subst}
-use mathlib.Core.Bool.{Bool, true, false, cond, ◌&&◌}
+use mathlib.Core.Bool.{Bool, true, false, cond, ◌&&◌, false≢true}
 use mathlib.Core.List.{List, [], ◌++◌, append-nil}
 use lib.Dec.{leb}
 use lib.ListN.{length, drop}
 use borrow.Author.Tests.{leb-true, leb-false, le-leb, lt-leb}
+use Rattle.std.specs.Prelude.{Result, Ok, Err}
 use Rattle.dwords.specs.Dwords.{byte_at, le32, dword, bits, bit}
 use Rattle.dwords.proofs.Bytes.{bits_below}
-use Rattle.sfdp.specs.Jesd216.{address_bytes, density, volatility, signed, parameter_header, basic, read_header, fields, params, extended, of_table, read_area}
+use Rattle.sfdp.specs.Jesd216.{address_bytes, density, volatility, signed, parameter_header, basic, read_header, fields, params, extended, read_area}
 use Rattle.sfdp.specs.declared.SFDPAddressBytes.TheVariants as Address
 use Rattle.sfdp.specs.declared.SFDPStatus1Volatility.TheVariants as Status1
 use Rattle.sfdp.specs.declared.FlashParams.{FlashParams}
-use Rattle.sfdp.specs.declared.ReadArea.TheVariants as OfArea
 use Rattle.sfdp.proofs.Bounds.{table_params}
 use Rattle.sfdp_write.specs.Table.{dwords_of, bytes_of, table_of}
 use Rattle.sfdp_write.specs.Form.{first_formed, rest_formed, formed}
 use Rattle.sfdp_write.specs.Written.{header, area_of, answer_to, written}
-use Rattle.sfdp_write.specs.declared.WriteTable.{WriteTable}
-use Rattle.sfdp_write.specs.declared.WriteTable.TheVariants.{Done, NoForm, NoRoom}
+use Rattle.sfdp_write.specs.declared.WriteError.{WriteError}
+use Rattle.sfdp_write.specs.declared.WriteError.TheVariants.{NoForm, NoRoom}
 use Rattle.sfdp_write.specs.Promises.{minor6, Widths, Dwords16, HasForm, NoneSkipped, NoneReserved, AbsentZeros, Plain, RefusesExactly, NeedsExactly, DoneExactly, RefusalKeeps, DoneWrites, ReadsBack, WritesAgain, WritesPlain, WriterPromises}
 use Rattle.sfdp_write.proofs.Lists.{length_bytes, bytes_below}
-use Rattle.sfdp_write.proofs.Codes.{false_true, support_code, address_free, address_other, address_read, status_free, status_back}
+use Rattle.sfdp_write.proofs.Codes.{support_code, address_free, address_other, address_read, status_free, status_back}
 use Rattle.sfdp_write.proofs.Back.{first_parts, rest_parts, four_typed, first, pair, polls, last, ten, eleven, dense, at1, at2, at8, at9, at10, at11, at14, at16, table_back}
 use Rattle.sfdp_write.proofs.Again.{params_formed, table_again}
 
@@ -56,20 +56,20 @@ form_found p f =
     ∙ params_formed t f.dwords.bytes q.0 (λ (e : address_bytes (bits (dword t 1) 18 17) ≡ Address.Reserved). f.address (a ∙ e)) (λ (e : volatility (bits (dword t 16) 4 0) ≡ Status1.Reserved). f.status (v ∙ e))
 
 -- ---- the answers
-abbrev answer : Bool → Bool → WriteTable
-answer form room = cond form (cond room Done (NoRoom 80)) NoForm
+abbrev answer : Bool → Bool → Result Unit WriteError
+answer form room = cond form (cond room (Ok tt) (Err (NoRoom 80))) (Err NoForm)
 
-none : (a b : Bool) → answer a b ≡ NoForm → a ≡ false
+none : (a b : Bool) → answer a b ≡ Err NoForm → a ≡ false
 none true true e = let z : ◌≡◌ {A = ℕ} 0 1 = cc in absurd (omega arith)
 none true false e = let z : ◌≡◌ {A = ℕ} 0 1 = cc in absurd (omega arith)
 none false b e = refl
 
-short : (a b : Bool) (n : ℕ) → answer a b ≡ NoRoom n → (a ≡ true) × (b ≡ false) × (n ≡ 80)
+short : (a b : Bool) (n : ℕ) → answer a b ≡ Err (NoRoom n) → (a ≡ true) × (b ≡ false) × (n ≡ 80)
 short true true n e = let z : ◌≡◌ {A = ℕ} 0 1 = cc in absurd (omega arith)
 short true false n e = let q : n ≡ 80 = cc in (refl, refl, q)
 short false b n e = let z : ◌≡◌ {A = ℕ} 0 1 = cc in absurd (omega arith)
 
-done : (a b : Bool) → answer a b ≡ Done → (a ≡ true) × (b ≡ true)
+done : (a b : Bool) → answer a b ≡ Ok tt → (a ≡ true) × (b ≡ true)
 done true true e = (refl, refl)
 done true false e = let z : ◌≡◌ {A = ℕ} 0 1 = cc in absurd (omega arith)
 done false b e = let z : ◌≡◌ {A = ℕ} 0 1 = cc in absurd (omega arith)
@@ -81,14 +81,14 @@ not_formed p false e wide f = e
 pub refuses_exactly : RefusesExactly
 unfolding answer_to
 refuses_exactly p room wide = (
-  λ (e : answer_to p room ≡ NoForm) (f : HasForm p). false_true (sym (none (formed p) (leb 80 (length room)) e) ∙ form_found p f),
+  λ (e : answer_to p room ≡ Err NoForm) (f : HasForm p). absurd (false≢true (sym (none (formed p) (leb 80 (length room)) e) ∙ form_found p f)),
   λ (f : HasForm p → ⊥). rw (not_formed p (formed p) refl wide f),
 )
 
 pub needs_exactly : NeedsExactly
 unfolding answer_to
 needs_exactly p room need wide = (
-  λ (e : answer_to p room ≡ NoRoom need).
+  λ (e : answer_to p room ≡ Err (NoRoom need)).
       let r = short (formed p) (leb 80 (length room)) need e in
       (has_form p wide r.0, leb-false 80 (length room) r.1, r.2),
   λ (f : HasForm p × (length room < 80) × (need ≡ 80)). rw (form_found p f.0, lt-leb 80 (length room) f.1, f.2),
@@ -97,7 +97,7 @@ needs_exactly p room need wide = (
 pub done_exactly : DoneExactly
 unfolding answer_to
 done_exactly p room wide = (
-  λ (e : answer_to p room ≡ Done).
+  λ (e : answer_to p room ≡ Ok tt).
       let r = done (formed p) (leb 80 (length room)) e in
       (has_form p wide r.0, leb-true 80 (length room) r.1),
   λ (f : HasForm p × (80 ≤ length room)). rw (form_found p f.0, le-leb 80 (length room) f.1),
@@ -107,7 +107,7 @@ pub refusal_keeps : RefusalKeeps
 unfolding answer_to written
 refusal_keeps p room h = by_tests (formed p) (leb 80 (length room)) h
   where
-    by_tests : (a b : Bool) → (answer a b ≡ Done → ⊥) → cond (a && b) (area_of p ++ drop 80 room) room ≡ room
+    by_tests : (a b : Bool) → (answer a b ≡ Ok tt → ⊥) → cond (a && b) (area_of p ++ drop 80 room) room ≡ room
     by_tests true true n = absurd (n refl)
     by_tests true false n = refl
     by_tests false b n = refl
@@ -117,9 +117,9 @@ unfolding answer_to written
 done_writes p room e = let r = done (formed p) (leb 80 (length room)) e in rw (r.0, r.1)
 
 -- ---- reading back
-area_back : (p : FlashParams) (more : List ℕ) → Widths p → formed p ≡ true → read_area (header ++ (table_of p ++ more)) ≡ OfArea.Params (minor6 p)
+area_back : (p : FlashParams) (more : List ℕ) → Widths p → formed p ≡ true → read_area (header ++ (table_of p ++ more)) ≡ Ok (minor6 p)
 unfolding read_area read_header signed parameter_header basic byte_at
-area_back p more wide h = ap of_table (table_back p h wide more)
+area_back p more wide h = (table_back p h wide more)
 
 pub reads_back : ReadsBack
 unfolding answer_to

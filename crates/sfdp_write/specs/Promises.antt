@@ -1,16 +1,14 @@
 -- What is promised of writing: the statements. proofs/Promised.antt proves them.
-use Rattle.std.specs.Prelude.{ℕ, ◌^◌, ◌≤◌, ◌<◌, ◌≡◌, true, List, ◌++◌, ◌⊎◌, ◌↔◌, length, get_or, drop}
+use Rattle.std.specs.Prelude.{ℕ, ◌^◌, ◌≤◌, ◌<◌, ◌≡◌, true, List, ◌++◌, ◌⊎◌, ◌↔◌, length, get_or, drop, Ok, Err}
 use Rattle.dwords.specs.Dwords.{dword, bits, bit}
 use Rattle.sfdp.specs.Jesd216.{density, volatility, read_table, read_area}
 use Rattle.sfdp.specs.declared.SFDPAddressBytes.TheVariants as Address
 use Rattle.sfdp.specs.declared.SFDPStatus1Volatility.TheVariants as Status1
 use Rattle.sfdp.specs.declared.SFDPEraseInst.{SFDPEraseInst}
 use Rattle.sfdp.specs.declared.FlashParams.{FlashParams}
-use Rattle.sfdp.specs.declared.ReadParams.TheVariants as OfTable
-use Rattle.sfdp.specs.declared.ReadArea.TheVariants as OfArea
 use Rattle.sfdp_write.specs.Table.{table_of}
 use Rattle.sfdp_write.specs.Written.{header, answer_to, written}
-use Rattle.sfdp_write.specs.declared.WriteTable.TheVariants.{Done, NoForm, NoRoom}
+use Rattle.sfdp_write.specs.declared.WriteError.TheVariants.{NoForm, NoRoom}
 
 -- ---- parameters
 
@@ -66,7 +64,7 @@ pub record HasForm (p : FlashParams) : Type 0 where
   pub status : p.status_1_vol ≡ Status1.Reserved → ⊥
   pub table : List ℕ
   pub dwords : Dwords16 table
-  pub reads : read_table 6 16 table ≡ OfTable.Params (minor6 p)
+  pub reads : read_table 6 16 table ≡ Ok (minor6 p)
 
 -- bits hi:lo of dword n are 0
 abbrev pub Clear : List ℕ → ℕ → ℕ → ℕ → Type 0
@@ -114,38 +112,38 @@ pub record Plain (t : List ℕ) : Type 0 where
 
 -- ---- the statements, of parameters p and a lent buffer
 
--- 15 exactly if there is no form; then 11, with 80, exactly if there are less than 80 bytes; else Done
+-- 15 exactly if there is no form; then 11, with 80, exactly if there are less than 80 bytes; else Ok
 abbrev pub RefusesExactly : Type 0
-RefusesExactly = (p : FlashParams) (room : List ℕ) → Widths p → (answer_to p room ≡ NoForm) ↔ (HasForm p → ⊥)
+RefusesExactly = (p : FlashParams) (room : List ℕ) → Widths p → (answer_to p room ≡ Err NoForm) ↔ (HasForm p → ⊥)
 
 abbrev pub NeedsExactly : Type 0
 NeedsExactly =
     (p : FlashParams) (room : List ℕ) (need : ℕ)
     → Widths p
-    → (answer_to p room ≡ NoRoom need) ↔ (HasForm p × (length room < 80) × (need ≡ 80))
+    → (answer_to p room ≡ Err (NoRoom need)) ↔ (HasForm p × (length room < 80) × (need ≡ 80))
 
 abbrev pub DoneExactly : Type 0
-DoneExactly = (p : FlashParams) (room : List ℕ) → Widths p → (answer_to p room ≡ Done) ↔ (HasForm p × (80 ≤ length room))
+DoneExactly = (p : FlashParams) (room : List ℕ) → Widths p → (answer_to p room ≡ Ok tt) ↔ (HasForm p × (80 ≤ length room))
 
--- a refusal leaves the buffer as it was; Done leaves the 80 bytes, and what was behind them
+-- a refusal leaves the buffer as it was; Ok leaves the 80 bytes, and what was behind them
 abbrev pub RefusalKeeps : Type 0
-RefusalKeeps = (p : FlashParams) (room : List ℕ) → (answer_to p room ≡ Done → ⊥) → written p room ≡ room
+RefusalKeeps = (p : FlashParams) (room : List ℕ) → (answer_to p room ≡ Ok tt → ⊥) → written p room ≡ room
 
 abbrev pub DoneWrites : Type 0
-DoneWrites = (p : FlashParams) (room : List ℕ) → answer_to p room ≡ Done → written p room ≡ header ++ (table_of p ++ drop 80 room)
+DoneWrites = (p : FlashParams) (room : List ℕ) → answer_to p room ≡ Ok tt → written p room ≡ header ++ (table_of p ++ drop 80 room)
 
 -- reading it back gives the same parameters, but for the minor, now 6
 abbrev pub ReadsBack : Type 0
-ReadsBack = (p : FlashParams) (room : List ℕ) → Widths p → answer_to p room ≡ Done → read_area (written p room) ≡ OfArea.Params (minor6 p)
+ReadsBack = (p : FlashParams) (room : List ℕ) → Widths p → answer_to p room ≡ Ok tt → read_area (written p room) ≡ Ok (minor6 p)
 
 -- what was read from a plain table of minor 6 and 16 dwords is written as those 64 bytes again
 abbrev pub WritesAgain : Type 0
 WritesAgain =
     (t : List ℕ) (p : FlashParams) (room : List ℕ)
     → Plain t
-    → read_table 6 16 t ≡ OfTable.Params p
+    → read_table 6 16 t ≡ Ok p
     → 80 ≤ length room
-    → (answer_to p room ≡ Done) × (written p room ≡ header ++ (t ++ drop 80 room))
+    → (answer_to p room ≡ Ok tt) × (written p room ≡ header ++ (t ++ drop 80 room))
 
 -- and every table that is written is plain
 abbrev pub WritesPlain : Type 0

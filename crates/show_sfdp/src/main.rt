@@ -2,51 +2,42 @@
 #![tactic(auto)]
 
 use sfdp::{
-    FlashParams, ReadArea, SFDPAddressBytes, SFDPEraseInst, SFDPStatus1Volatility, SFDPTiming,
-    SectorErase,
+    FlashParams, SFDPAddressBytes, SFDPEraseInst, SFDPError, SFDPStatus1Volatility, SFDPTiming,
 };
-use std::io;
 use std::rt::Files;
+use std::{fmt, io};
 
-fn yes_or_no<R: Print>(rt: &R, label: &str, yes: bool) -> io::Result<()> {
-    if yes {
-        println!(rt; "{label}yes")
-    } else {
-        println!(rt; "{label}no")
+// A time in µs, typical and maximum.
+#[derive(Clone, Copy)]
+struct Time(u32, u64);
+
+impl fmt::Display for Time {
+    fn fmt<W: fmt::Write>(&self, f: &mut fmt::Formatter<W>) -> fmt::Result {
+        write!(f, "{} us, at most {} us", self.0, self.1)
     }
 }
 
-fn times<R: Print>(rt: &R, label: &str, typical: u32, maximum: u64) -> io::Result<()> {
-    print!(rt; "{label}{typical} us, at most {maximum} us")
+fn yes_or_no(yes: bool) -> &'static str {
+    if yes { "yes" } else { "no" }
 }
 
-fn show_address<R: Print>(rt: &R, a: SFDPAddressBytes) -> io::Result<()> {
+fn address_words(a: SFDPAddressBytes) -> &'static str {
     match a {
-        SFDPAddressBytes::Three => println!(rt; "address bytes        three"),
-        SFDPAddressBytes::ThreeOrFour => println!(rt; "address bytes        three or four"),
-        SFDPAddressBytes::Four => println!(rt; "address bytes        four"),
-        SFDPAddressBytes::Reserved => println!(rt; "address bytes        a reserved code"),
+        SFDPAddressBytes::Three => "three",
+        SFDPAddressBytes::ThreeOrFour => "three or four",
+        SFDPAddressBytes::Four => "four",
+        SFDPAddressBytes::Reserved => "a reserved code",
     }
 }
 
-fn show_volatility<R: Print>(rt: &R, v: SFDPStatus1Volatility) -> io::Result<()> {
+fn volatility_words(v: SFDPStatus1Volatility) -> &'static str {
     match v {
-        SFDPStatus1Volatility::NonVolatile06 => {
-            println!(rt; "status register 1    kept, enable by 06")
-        }
-        SFDPStatus1Volatility::Volatile06 => {
-            println!(rt; "status register 1    lost, enable by 06")
-        }
-        SFDPStatus1Volatility::Volatile50 => {
-            println!(rt; "status register 1    lost, enable by 50")
-        }
-        SFDPStatus1Volatility::NonVolatile06Volatile50 => {
-            println!(rt; "status register 1    kept by 06, lost by 50")
-        }
-        SFDPStatus1Volatility::Mixed06 => {
-            println!(rt; "status register 1    mixed, enable by 06")
-        }
-        SFDPStatus1Volatility::Reserved => println!(rt; "status register 1    a reserved code"),
+        SFDPStatus1Volatility::NonVolatile06 => "kept, enable by 06",
+        SFDPStatus1Volatility::Volatile06 => "lost, enable by 06",
+        SFDPStatus1Volatility::Volatile50 => "lost, enable by 50",
+        SFDPStatus1Volatility::NonVolatile06Volatile50 => "kept by 06, lost by 50",
+        SFDPStatus1Volatility::Mixed06 => "mixed, enable by 06",
+        SFDPStatus1Volatility::Reserved => "a reserved code",
     }
 }
 
@@ -54,11 +45,9 @@ fn show_inst<R: Print>(rt: &R, e: SFDPEraseInst) -> io::Result<()> {
     if e.size == 0 {
         return Ok(());
     }
-    let opcode = e.opcode;
-    let size = e.size;
-    print!(rt; "erase instruction    {opcode:02x}, {size} bytes")?;
+    print!(rt; "erase instruction    {:02x}, {} bytes", e.opcode, e.size)?;
     if e.timed {
-        times(rt, ", ", e.time_typ, e.time_max)?;
+        print!(rt; ", {}", Time(e.time_typ, e.time_max))?;
     }
     println!(rt)
 }
@@ -70,39 +59,20 @@ fn show_insts<R: Print>(rt: &R, p: FlashParams) -> io::Result<()> {
     show_inst(rt, s.inst3)?;
     show_inst(rt, s.inst4)?;
     match p.sector_erase() {
-        SectorErase::Smallest(size, opcode) => {
-            println!(rt; "smallest             {size} bytes by {opcode:02x}")
-        }
-        SectorErase::Nothing => println!(rt; "smallest             none"),
+        Some(e) => println!(rt; "smallest             {} bytes by {:02x}", e.size, e.opcode),
+        None => println!(rt; "smallest             none"),
     }
 }
 
 fn show_timing<R: Print>(rt: &R, t: SFDPTiming) -> io::Result<()> {
-    times(
-        rt,
-        "chip erase           ",
-        t.chip_erase_time_typ,
-        t.chip_erase_time_max,
-    )?;
-    times(
-        rt,
-        "\npage program         ",
-        t.page_prog_time_typ,
-        t.page_prog_time_max,
-    )?;
-    times(
-        rt,
-        "\nfirst byte           ",
-        t.first_byte_prog_time_typ,
-        t.first_byte_prog_time_max,
-    )?;
-    times(
-        rt,
-        "\nlater bytes          ",
-        t.succ_byte_prog_time_typ,
-        t.succ_byte_prog_time_max,
-    )?;
-    println!(rt)
+    let chip = Time(t.chip_erase_time_typ, t.chip_erase_time_max);
+    let page = Time(t.page_prog_time_typ, t.page_prog_time_max);
+    let first = Time(t.first_byte_prog_time_typ, t.first_byte_prog_time_max);
+    let later = Time(t.succ_byte_prog_time_typ, t.succ_byte_prog_time_max);
+    println!(rt; "chip erase           {chip}")?;
+    println!(rt; "page program         {page}")?;
+    println!(rt; "first byte           {first}")?;
+    println!(rt; "later bytes          {later}")
 }
 
 fn show_extended<R: Print>(rt: &R, p: FlashParams) -> io::Result<()> {
@@ -111,42 +81,36 @@ fn show_extended<R: Print>(rt: &R, p: FlashParams) -> io::Result<()> {
             "dwords 10 to 16      not there: times, page size, polling and reset unknown"
         );
     }
-    let size = p.page_size;
     show_timing(rt, p.timing)?;
-    println!(rt; "page size            {size}")?;
-    yes_or_no(rt, "poll by flag status  ", p.busy_poll_flag)?;
-    yes_or_no(rt, "poll by status 1     ", p.busy_poll_status)?;
-    yes_or_no(rt, "reset by F0          ", p.reset_inst_f0)?;
-    yes_or_no(rt, "reset by 66, 99      ", p.reset_inst_66_99)?;
-    show_volatility(rt, p.status_1_vol)
+    println!(rt; "page size            {}", p.page_size)?;
+    println!(rt; "poll by flag status  {}", yes_or_no(p.busy_poll_flag))?;
+    println!(rt; "poll by status 1     {}", yes_or_no(p.busy_poll_status))?;
+    println!(rt; "reset by F0          {}", yes_or_no(p.reset_inst_f0))?;
+    println!(rt; "reset by 66, 99      {}", yes_or_no(p.reset_inst_66_99))?;
+    println!(rt; "status register 1    {}", volatility_words(p.status_1_vol))
 }
 
 fn show<R: Print>(rt: &R, p: FlashParams) -> io::Result<()> {
-    let minor = p.version_minor;
-    let density = p.density;
-    let bytes = p.capacity_bytes();
-    let opcode = p.legacy_4kb_erase_inst;
-    println!(rt; "table version        1.{minor}")?;
-    println!(rt; "density              {density} bits, {bytes} bytes")?;
-    show_address(rt, p.address_bytes)?;
-    yes_or_no(rt, "4 KiB erase          ", p.legacy_4kb_erase_supported)?;
-    println!(rt; "4 KiB opcode         {opcode:02x}")?;
+    println!(rt; "table version        1.{}", p.version_minor)?;
+    println!(rt;
+        "density              {} bits, {} bytes",
+        p.density,
+        p.capacity_bytes()
+    )?;
+    println!(rt; "address bytes        {}", address_words(p.address_bytes))?;
+    println!(rt;
+        "4 KiB erase          {}",
+        yes_or_no(p.legacy_4kb_erase_supported)
+    )?;
+    println!(rt; "4 KiB opcode         {:02x}", p.legacy_4kb_erase_inst)?;
     show_insts(rt, p)?;
     show_extended(rt, p)
 }
 
-fn answer<R: Print>(rt: &R, r: ReadArea) -> io::Result<()> {
+fn answer<R: Print>(rt: &R, r: Result<FlashParams, SFDPError>) -> io::Result<()> {
     match r {
-        ReadArea::Params(p) => show(rt, p),
-        ReadArea::NoSFDP => println!(rt;
-            "answer 12: no SFDP signature; set the part's size and erase type by hand"
-        ),
-        ReadArea::InvalidSFDPHeader => println!(rt;
-            "answer 3: the first parameter header is not the basic table, major 1"
-        ),
-        ReadArea::InvalidSFDPParams => println!(rt;
-            "answer 4: fewer than 9 dwords, or a size or density out of range"
-        ),
+        Ok(p) => show(rt, p),
+        Err(e) => println!(rt; "answer {}: {e}", e.number()),
     }
 }
 
@@ -164,28 +128,21 @@ fn help<R: Print>(rt: &R) -> io::Result<()> {
 
 fn show_file<R: Files + Print + Eprint>(rt: &R, name: &[u8]) -> io::Result<()> {
     let mut buf = [0u8; 65536];
-    let area = files::read(rt, name, &mut buf);
-    let n = area.len;
-    if area.failed {
-        println!(rt;
+    match files::read(rt, name, &mut buf) {
+        Ok(n) => answer(rt, sfdp::read_area(&buf[..n])),
+        Err(_) => println!(rt;
             "error: the file cannot be read; see that the name is right, that it is a file and that you may read it"
-        )
-    } else {
-        answer(rt, sfdp::read_area(&buf[..n]))
+        ),
     }
 }
 
 fn main(rt: HostRuntime) -> io::Result<()> {
     let mut name = [0u8; 4096];
-    let first = files::argument(&rt, 1, &mut name);
-    let n = first.len;
-    if files::is_help(&name[..n]) {
-        return help(&rt);
-    }
-    if first.failed | !files::is_missing(&rt, 2) {
-        return println!(rt;
+    match files::argument(&rt, 1, &mut name) {
+        Ok(name) if files::is_help(name) => help(&rt),
+        Ok(name) if files::is_missing(&rt, 2) => show_file(&rt, name),
+        _ => println!(rt;
             "error: a name is needed: show_sfdp FILE, an SFDP area from address 0 on"
-        );
+        ),
     }
-    show_file(&rt, &name[..n])
 }

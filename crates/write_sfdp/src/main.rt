@@ -2,28 +2,18 @@
 // file for the 80 bytes.
 #![tactic(auto)]
 
-use sfdp::{FlashParams, ReadArea};
+use sfdp::FlashParams;
 use std::fs::OpenOptions;
 use std::io;
 use std::io::Write;
 use std::rt::Files;
 
-// An area that is not read, by its answer.
-fn refuse<R: Print>(rt: &R, number: u8) -> io::Result<()> {
-    println!(rt;
-        "answer {number}: nothing is written, since the driver does not read this area; show_sfdp says why"
-    )
-}
-
 // Whether an area is written as this table.
 fn is_written_as(area: &[u8], table: &[u8]) -> bool {
+    let mut again = [0u8; 80];
     match sfdp::read_area(area) {
-        ReadArea::Params(p) => {
-            let mut again = [0u8; 80];
-            sfdp_write::write_table(p, &mut again);
-            again.as_slice() == table
-        }
-        _ => false,
+        Ok(p) => sfdp_write::write_table(p, &mut again).is_ok() && again.as_slice() == table,
+        Err(_) => false,
     }
 }
 
@@ -38,24 +28,15 @@ fn write_new<R: Files>(rt: &R, name: &[u8], table: &[u8]) -> io::Result<()> {
 
 // A new file. Its name and the system's reason go to standard error if it cannot be made or written.
 fn save<R: Files + Eprint>(rt: &R, name: &[u8], table: &[u8]) -> bool {
-    match write_new(rt, name, table) {
-        Ok(()) => true,
-        Err(e) => {
-            files::fail(rt, name, &e);
-            false
-        }
-    }
+    files::told(rt, name, write_new(rt, name, table)).is_some()
 }
 
 // Reads the new file, and holds what was read against what was written.
 fn is_kept<R: Files + Eprint>(rt: &R, name: &[u8], table: &[u8]) -> bool {
     let mut buf = [0u8; 4096];
-    let kept = files::read(rt, name, &mut buf);
-    let n = kept.len;
-    if &buf[..n] == table {
-        return is_written_as(&buf[..n], table);
-    }
-    false
+    let n = files::read(rt, name, &mut buf).unwrap_or_else(|broken| broken.len);
+    let kept = &buf[..n];
+    kept == table && is_written_as(kept, table)
 }
 
 fn save_table<R: Files + Print + Eprint>(rt: &R, name: &[u8], table: &[u8]) -> io::Result<()> {
@@ -71,27 +52,27 @@ fn save_table<R: Files + Print + Eprint>(rt: &R, name: &[u8], table: &[u8]) -> i
 
 fn write<R: Files + Print + Eprint>(rt: &R, p: FlashParams, name: &[u8]) -> io::Result<()> {
     let mut table = [0u8; 80];
-    if sfdp_write::write_table(p, &mut table).number() == 0 {
-        return save_table(rt, name, &table);
+    match sfdp_write::write_table(p, &mut table) {
+        Ok(()) => save_table(rt, name, &table),
+        Err(_) => println!(rt;
+            "answer 15: nothing is written, since no table of 16 dwords has these parameters exactly (one of fewer dwords has no times, page size, polling and reset)"
+        ),
     }
-    println!(rt;
-        "answer 15: nothing is written, since no table of 16 dwords has these parameters exactly (one of fewer dwords has no times, page size, polling and reset)"
-    )
 }
 
 fn write_from<R: Files + Print + Eprint>(rt: &R, area: &[u8], name: &[u8]) -> io::Result<()> {
     let mut buf = [0u8; 65536];
-    let part = files::read(rt, area, &mut buf);
-    let n = part.len;
-    if part.failed {
+    let Ok(n) = files::read(rt, area, &mut buf) else {
         return println!(rt;
             "error: the area cannot be read; see that the name is right, that it is a file and that you may read it"
         );
-    }
-    let r = sfdp::read_area(&buf[..n]);
-    match r {
-        ReadArea::Params(p) => write(rt, p, name),
-        _ => refuse(rt, r.number()),
+    };
+    match sfdp::read_area(&buf[..n]) {
+        Ok(p) => write(rt, p, name),
+        Err(e) => println!(rt;
+            "answer {}: nothing is written, since the driver does not read this area; show_sfdp says why",
+            e.number()
+        ),
     }
 }
 
@@ -109,15 +90,11 @@ fn main(rt: HostRuntime) -> io::Result<()> {
     let mut two = [0u8; 4096];
     let first = files::argument(&rt, 1, &mut one);
     let second = files::argument(&rt, 2, &mut two);
-    let n = first.len;
-    let m = second.len;
-    if files::is_help(&one[..n]) {
-        return help(&rt);
-    }
-    if first.failed | second.failed | !files::is_missing(&rt, 3) {
-        return println!(rt;
+    match (first, second) {
+        (Ok(name), _) if files::is_help(name) => help(&rt),
+        (Ok(area), Ok(new)) if files::is_missing(&rt, 3) => write_from(&rt, area, new),
+        _ => println!(rt;
             "error: two names are needed: write_sfdp AREA NEW, a file with an SFDP area and a new file"
-        );
+        ),
     }
-    write_from(&rt, &one[..n], &two[..m])
 }

@@ -1,37 +1,10 @@
--- `erase_plan::are_powers` meets its contract: test by test.
-use Rattle.erase_plan.specs.Marks.{are_powers}
-use Rattle.std.proofs.Common.{rules}
+-- `erase_plan::are_powers` meets its contract: the test of all.
+use Rattle.std.proofs.Common.{rules, tests}
+use Rattle.std.proofs.lemmas.Iterator.{YieldsList-from_slice}
+use Rattle.std.proofs.lemmas.Iterator.Search.{all_from_yields_List}
+use Rattle.erase_plan.specs.Marks.{is_power, are_powers}
 use Rattle.erase_plan.proofs.are_powers.Goals as goal
 
-pub returns-then-is_power-3 : goal.returns-then-is_power-3
+pub returns : goal.returns
 unfolding are_powers
-returns-then-is_power-3 c =
-    rw (
-      c.is_power-then-is_power-3.ensures,
-      ← c.is_power-then-is_power-2.ensures,
-      c.if-is_power-3.true,
-      ← c.is_power-then-is_power.ensures,
-      c.if-is_power-2.true,
-      ← c.is_power.ensures,
-      c.if-is_power.true,
-    )
-
-pub returns-else-is_power-3 : goal.returns-else-is_power-3
-unfolding are_powers
-returns-else-is_power-3 c =
-    rw (
-      ← c.is_power-then-is_power-2.ensures,
-      c.if-is_power-3.false,
-      ← c.is_power-then-is_power.ensures,
-      c.if-is_power-2.true,
-      ← c.is_power.ensures,
-      c.if-is_power.true,
-    )
-
-pub returns-else-is_power-2 : goal.returns-else-is_power-2
-unfolding are_powers
-returns-else-is_power-2 c = rw (← c.is_power-then-is_power.ensures, c.if-is_power-2.false, ← c.is_power.ensures, c.if-is_power.true)
-
-pub returns-else-is_power : goal.returns-else-is_power
-unfolding are_powers
-returns-else-is_power c = rw (← c.is_power.ensures, c.if-is_power.false)
+returns c = all_from_yields_List is_power _ _ _ c.all.ensures.ran (YieldsList-from_slice c.args.ts.slots cc) (λ x b q k. search (rules, tests))

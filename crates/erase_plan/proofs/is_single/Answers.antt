@@ -1,16 +1,14 @@
--- `erase_plan::is_single` meets its contract: test by test.
-use Rattle.std.proofs.Common.{eq-eqb, ne_eqb}
+-- `erase_plan::is_single` meets its contract: the test of all but the first.
+use Rattle.std.proofs.Common.{◌∙◌, eqb, drop, length-drop, arith, rules, tests}
+use Rattle.std.proofs.lemmas.List.{take_all}
+use Rattle.std.proofs.lemmas.Iterator.{YieldsList-from_slice}
+use Rattle.std.proofs.lemmas.Iterator.Search.{all_from_yields_List}
+use Rattle.erase_plan.specs.declared.EraseType.{EraseType}
 use Rattle.erase_plan.specs.Marks.{is_single}
 use Rattle.erase_plan.proofs.is_single.Goals as goal
 
-pub returns-then-ts-eq0-2 : goal.returns-then-ts-eq0-2
+pub returns : goal.returns
 unfolding is_single
-returns-then-ts-eq0-2 c = rw (eq-eqb _ _ c.if-ts-eq0.true, eq-eqb _ _ c.if-ts-eq0-2.true)
-
-pub returns-else-ts-eq0-2 : goal.returns-else-ts-eq0-2
-unfolding is_single
-returns-else-ts-eq0-2 c = rw (eq-eqb _ _ c.if-ts-eq0.true, ne_eqb _ _ c.if-ts-eq0-2.false)
-
-pub returns-else-ts-eq0 : goal.returns-else-ts-eq0
-unfolding is_single
-returns-else-ts-eq0 c = rw (ne_eqb _ _ c.if-ts-eq0.false)
+returns c =
+    all_from_yields_List (λ (t : EraseType). eqb t.size 0) _ _ _ c.all.ensures.ran (YieldsList-from_slice (drop 1 c.args.ts.slots) (c.iter.ensures.rest ∙ take_all _ _ (omega (arith, length-drop 1 c.args.ts.slots))))
+    (λ x b q k. search (rules, tests))

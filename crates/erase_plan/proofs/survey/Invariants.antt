@@ -1,11 +1,11 @@
-use Rattle.std.proofs.Common.{◌+◌, ◌-◌, ◌<◌, cond, arith, rules}
+-- The walk has passed some entries of the plan. What is left of the addresses falls.
+use Rattle.std.proofs.Common.{◌+◌, ◌-◌}
 use Rattle.erase_plan.specs.Types.{present}
-use Rattle.erase_plan.specs.Passing.{Passed}
-use Rattle.erase_plan.proofs.Walks.{walk_starts, walk_ends, walk_few, walk_less}
+use Rattle.erase_plan.proofs.Walks.{Passed}
 use Rattle.erase_plan.proofs.survey.Given as goal
 
-abbrev pub invariant-loop-w : goal.invariant-loop-w
-invariant-loop-w l = Passed (present l.ts) l.at (l.last + 1) l.w × (l.w.at < 4294967296)
+abbrev pub invariant-loop-next : goal.invariant-loop-next
+invariant-loop-next l = Passed (present l.ts) l.at (l.last + 1) l.place l.later l.seen
 
-abbrev pub decreases-loop-w : goal.decreases-loop-w
-decreases-loop-w l = cond l.w.going (4294967296 - l.w.at) 0
+abbrev pub decreases-loop-next : goal.decreases-loop-next
+decreases-loop-next l = 4294967296 - l.place

@@ -1,28 +1,22 @@
-use borrow.Author.Rules.{rules}
-use Prim.Native.Nat.{◌≤◌, ◌-◌}
-use mathlib.Core.Path.{◌≡◌, refl, sym, ◌∙◌}
-use native.Mathlib.Omega.{arith}
-use lib.ListN.{length, drop}
-use Rattle.commands.specs.Commands.{blank}
-use Rattle.room.proofs.Steps.{eight_yes, eight_no}
+use Rattle.std.proofs.Common.{rules, nat_eq, tests, refl, sym, ap, ◌∙◌, ◌&&◌, arith}
+use Rattle.std.specs.List.{list_all}
+use Rattle.std.proofs.lemmas.Iterator.{YieldsList-from_slice}
+use Rattle.std.proofs.lemmas.Iterator.Search.{all_from_yields_List}
+use Rattle.room.proofs.Steps.{full, all_parts}
 use Rattle.room.proofs.all_ff.Goals as goal
 
-pub loop-i-init : goal.loop-i-init
-loop-i-init c = (search rules, refl)
+pub returns-then-all : goal.returns-then-all
+returns-then-all c =
+    let chunks = c.as_chunks.result.0.now in
+    let rest = c.as_chunks.result.1.now in
+    let eights = all_from_yields_List full _ _ c.all.result c.all.ensures.ran (YieldsList-from_slice chunks (cc)) (λ x b q k. search (rules, tests)) in
+    let ones = all_from_yields_List (λ x. nat_eq x 255) _ _ c.all-then-all.result c.all-then-all.ensures.ran (YieldsList-from_slice rest (cc)) (λ x b q k. search (rules, tests)) in
+    sym (ap (λ t. t && c.all-then-all.result) c.if-all.true) ∙ all_parts c.args.part.now rest chunks _ _ (λ k. omega (arith, c.type_inv.part k)) c.as_chunks.ensures.front c.as_chunks.ensures.back eights ones
 
-pub loop-i-preserved : goal.loop-i-preserved
-loop-i-preserved c = (
-  search rules,
-  sym (eight_yes c.args.part.now c.loop-i.i
-      (sym c.eight_ff.ensures ∙ c.if-eight_ff.true))
-      ∙ c.loop-i.invariant.1,
-)
-
-pub returns-else-eight_ff : goal.returns-else-eight_ff
-returns-else-eight_ff c =
-    sym (eight_no c.args.part.now c.loop-i.i
-    (sym c.eight_ff.ensures ∙ c.if-eight_ff.false))
-    ∙ c.loop-i.invariant.1
-
-pub returns : goal.returns
-returns c = c.rest_ff.ensures ∙ c.loop-i.invariant.1
+pub returns-else-all : goal.returns-else-all
+returns-else-all c =
+    let chunks = c.as_chunks.result.0.now in
+    let rest = c.as_chunks.result.1.now in
+    let eights = all_from_yields_List full _ _ c.all.result c.all.ensures.ran (YieldsList-from_slice chunks (cc)) (λ x b q k. search (rules, tests)) in
+    let ones = list_all (λ x. nat_eq x 255) rest in
+    c.if-all.false ∙ sym (ap (λ t. t && ones) c.if-all.false) ∙ all_parts c.args.part.now rest chunks _ ones (λ k. omega (arith, c.type_inv.part k)) c.as_chunks.ensures.front c.as_chunks.ensures.back eights refl

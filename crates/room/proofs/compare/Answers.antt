@@ -1,29 +1,21 @@
-use borrow.Author.Rules.{rules}
-use Prim.Native.Nat.{◌≤◌, ◌-◌}
-use mathlib.Core.Path.{◌≡◌, refl, sym, ◌∙◌}
-use native.Mathlib.Omega.{arith}
-use lib.ListN.{drop}
-use Rattle.room.specs.Room.{differs_from}
-use Rattle.room.proofs.Steps.{turns_on, turns_out, turns_end}
+use Rattle.std.proofs.Common.{rules, tests, ◌∙◌}
+use Rattle.std.specs.List.{zip}
+use Rattle.std.proofs.lemmas.Iterator.{YieldsList-from_slice, YieldsList-from_zip}
+use Rattle.std.proofs.lemmas.Iterator.Search.{position_from_yields_List}
+use Rattle.std.proofs.lemmas.Iterator.Adapters.{position_from-zero}
+use Rattle.room.proofs.Steps.{differ, found_differs}
 use Rattle.room.proofs.compare.Goals as goal
 
-pub loop-i-init : goal.loop-i-init
-loop-i-init c = (search rules, refl)
-
-pub returns-then-part-i : goal.returns-then-part-i
-returns-then-part-i c =
-    let l = c.loop-i in
-    let a = c.args in
-    sym (turns_out a.part.now a.reply.now l.i (omega arith) (omega arith) c.if-part-i.true) ∙ l.invariant.1
-
-pub loop-i-preserved : goal.loop-i-preserved
-loop-i-preserved c =
-    let l = c.loop-i in
-    let a = c.args in
-    (search rules, sym (turns_on a.part.now a.reply.now l.i (omega arith) (omega arith) c.if-part-i.false) ∙ l.invariant.1)
+pub returns-in_err-i : goal.returns-in_err-i
+returns-in_err-i c =
+    let l = c.args.part.now in
+    let r = c.args.reply.now in
+    let found = position_from_yields_List differ c.position.new.self _ c.position.result c.position.ensures.ran (YieldsList-from_zip (YieldsList-from_slice l (cc)) (YieldsList-from_slice r (cc))) (λ x b q k. search (rules, tests)) ∙ position_from-zero differ (zip l r) in
+    c.from_residual.ensures ∙ found_differs l r _ _ found c.in_err-i.was
 
 pub returns : goal.returns
 returns c =
-    let l = c.loop-i in
-    let a = c.args in
-    sym (turns_end a.part.now a.reply.now l.i (omega arith)) ∙ l.invariant.1
+    let l = c.args.part.now in
+    let r = c.args.reply.now in
+    let found = position_from_yields_List differ c.position.new.self _ c.position.result c.position.ensures.ran (YieldsList-from_zip (YieldsList-from_slice l (cc)) (YieldsList-from_slice r (cc))) (λ x b q k. search (rules, tests)) ∙ position_from-zero differ (zip l r) in
+    found_differs l r _ _ found c.in_ok-i.was

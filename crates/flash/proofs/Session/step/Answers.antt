@@ -1,6 +1,5 @@
-use mathlib.Core.Path.{sym, ◌∙◌}
-use Rattle.flash.proofs.Ways.{way_ended, way_short, way_access, way_on, way_goes}
-use borrow.Author.Rules.{rules}
+use Rattle.std.proofs.Common.{refl, sym, ◌∙◌}
+use Rattle.flash.proofs.Ways.{way_ended, way_short, way_access, way_on}
 use Rattle.flash.proofs.Session.step.Goals as goal
 
 pub returns-then-is_ended : goal.returns-then-is_ended
@@ -9,16 +8,10 @@ returns-then-is_ended c = way_ended _ _ _ _ _ c.tell.ensures (sym c.is_ended.ens
 pub returns-then-work-need : goal.returns-then-work-need
 returns-then-work-need c = way_short _ _ _ _ (sym c.is_ended.ensures ∙ c.if-is_ended.false) _ c.need_of-need.ensures _ c.count-n.ensures c.if-work-need.true
 
-pub returns-then-of_table : goal.returns-then-of_table
-returns-then-of_table c =
-    way_on _ _ _ _ (sym c.is_ended.ensures ∙ c.if-is_ended.false) _ c.need_of-need.ensures _ c.count-n.ensures c.if-work-need.false _ c.is_full.ensures _ _ c.if-is_full.true
-    (c.table_on.ensures (sym c.of_table.ensures ∙ c.if-of_table.true))
-
 pub returns-then-is_full : goal.returns-then-is_full
 returns-then-is_full c =
-    rw (c.event_at.ensures, c.goes.ensures)
-    (way_goes _ _ _ _ (sym c.is_ended.ensures ∙ c.if-is_ended.false) _ c.need_of-need.ensures _ c.count-n.ensures c.if-work-need.false _ c.is_full.ensures _ _ c.if-is_full.true
-    (c.advance-q.ensures _ (sym c.of_table.ensures ∙ c.if-of_table.false) (sym c.is_ended.ensures ∙ c.if-is_ended.false)) c.keep.ensures)
+    way_on _ _ _ _ (sym c.is_ended.ensures ∙ c.if-is_ended.false) _ c.need_of-need.ensures _ c.count-n.ensures c.if-work-need.false _ c.is_full.ensures _ _ c.if-is_full.true
+    (rw (c.tell-then-is_full.ensures, c.advance-next.ensures) (refl, c.keep.ensures))
 
 pub returns : goal.returns
 returns c =

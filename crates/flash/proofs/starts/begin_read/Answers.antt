@@ -1,16 +1,9 @@
-use mathlib.Core.Path.{sym, ◌∙◌, ap}
-use Rattle.settings.proofs.Laws.{check_reports}
-use Rattle.flash.proofs.Accepted.{accepted, barred, roomed_starts}
-use Rattle.flash.specs.Starts.{unless_runs, in_range, start_read}
-use borrow.Author.Rules.{rules}
+use Rattle.flash.specs.Starts.{in_range, start_read}
+use Rattle.flash.proofs.Accepted.{handed_on}
 use Rattle.flash.proofs.starts.begin_read.Goals as goal
 
-pub returns-in-InvalidAddress : goal.returns-in-InvalidAddress
+pub returns-in_err-check_address_length : goal.returns-in_err-check_address_length
 unfolding start_read in_range
-returns-in-InvalidAddress c s e =
-    let k = sym c.check_address_length.ensures ∙ c.in-InvalidAddress.is in
-    rw (barred s _ e _ _ _ k, ← (check_reports _ _ _ _ k).1)
-
-pub returns-in-Fits : goal.returns-in-Fits
-unfolding start_read in_range
-returns-in-Fits c s e = rw (accepted s _ e _ _ (sym c.check_address_length.ensures ∙ c.in-Fits.is)) (ap (unless_runs s) (roomed_starts s _ _ _ _ c.roomed.ensures))
+returns-in_err-check_address_length c =
+    let k = handed_on _ _ _ _ c.check_address_length.ensures _ _ c.in_err-check_address_length.was c.from_residual.ensures.1 in
+    rw (k.1, k.0)

@@ -1,32 +1,18 @@
-use native.Mathlib.Omega.{arith}
-use mathlib.Core.Path.{sym, ◌∙◌, ap}
-use Rattle.settings.proofs.Laws.{check_fits, check_reports, accepted_nonempty, accepted_32}
-use Rattle.flash.proofs.Accepted.{accepted, barred}
+use Rattle.std.proofs.Common.{ap, arith}
 use Rattle.flash.specs.Starts.{unless_runs, in_range, start_erase_sectors}
-use borrow.Author.Rules.{rules}
+use Rattle.flash.proofs.Accepted.{accepted, handed_on, one_at_least}
 use Rattle.flash.proofs.starts.begin_sectors.Goals as goal
 
-pub overflow_sub-n : goal.overflow_sub-n
-overflow_sub-n c = accepted_nonempty _ _ _ ((check_fits _ _ _).0 (sym c.check_address_length.ensures ∙ c.in-Fits.is))
-
-pub overflow_add-a : goal.overflow_add-a
-overflow_add-a c =
-    let h = (check_fits _ _ _).0 (sym c.check_address_length.ensures ∙ c.in-Fits.is) in
-    omega (arith, accepted_nonempty _ _ _ h, accepted_32 _ _ _ h)
-
-pub overflow_cast-a-in-Fits : goal.overflow_cast-a-in-Fits
-overflow_cast-a-in-Fits c =
-    let h = (check_fits _ _ _).0 (sym c.check_address_length.ensures ∙ c.in-Fits.is) in
-    omega (arith, accepted_nonempty _ _ _ h, accepted_32 _ _ _ h)
-
-pub returns-in-InvalidAddress : goal.returns-in-InvalidAddress
+pub returns-in_err-check_address_length : goal.returns-in_err-check_address_length
 unfolding start_erase_sectors in_range
-returns-in-InvalidAddress c s e t =
-    let k = sym c.check_address_length.ensures ∙ c.in-InvalidAddress.is in
-    rw (barred s _ e _ _ _ k, ← (check_reports _ _ _ _ k).1)
+returns-in_err-check_address_length c =
+    let k = handed_on _ _ _ _ c.check_address_length.ensures _ _ c.in_err-check_address_length.was c.from_residual.ensures.1 in
+    rw (k.1, k.0)
 
-pub returns-in-Fits : goal.returns-in-Fits
+pub returns : goal.returns
 unfolding start_erase_sectors in_range
-returns-in-Fits c s e t =
-    let k = sym c.check_address_length.ensures ∙ c.in-Fits.is in
-    rw (accepted s _ e _ _ k) (ap (unless_runs s) (c.plan_sectors.ensures s t (omega (arith, accepted_nonempty _ _ _ ((check_fits _ _ _).0 k)))))
+returns c =
+    let e = c.check_address_length.ensures in
+    let ok = c.in_ok-check_address_length.was in
+    rw (accepted _ _ _ _ e ok)
+    (ap (unless_runs c.args.s) (c.plan_sectors.ensures (omega (arith, one_at_least _ _ _ _ e ok))))

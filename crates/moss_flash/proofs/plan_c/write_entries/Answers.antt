@@ -1,28 +1,24 @@
-use Prim.Native.Nat.{◌≤◌, ◌-◌}
-use native.Mathlib.Omega.{arith}
-use mathlib.Core.Path.{◌≡◌, refl, sym, ◌∙◌}
-use lib.ListN.{length}
-use borrow.Author.Rules.{rules}
-use Rattle.plans.specs.Cursors.{Kept}
-use Rattle.plans.proofs.Filled.{step_kept}
-use Rattle.moss_flash.proofs.Filling.{filled, fill_start, fill_on, fill_end}
+use Rattle.std.proofs.Common.{sym, ap, ◌∙◌, arith, length}
+use Rattle.plans.proofs.Filled.{steps_some, steps_none}
+use Rattle.moss_flash.proofs.Filling.{fill_start, fill_on, fill_end}
 use Rattle.moss_flash.proofs.plan_c.write_entries.Goals as goal
-
-pub loop-k-init : goal.loop-k-init
-loop-k-init c = (omega arith, refl, refl, c.requires.2)
+use Rattle.moss_flash.proofs.plan_c.write_entries.Goals.{in-Some, in_default}
 
 pub loop-k-preserved : goal.loop-k-preserved
 loop-k-preserved c =
-    let taken = c.loop-k-test.true in
     let inv = c.loop-k.invariant in
-    let step = c.advance-s.ensures inv.3 in (
-      omega arith,
-      rw (c.lay.ensures, c.entry_bytes.ensures, step)
-          (fill_on _ _ _ _ taken (omega (arith, inv.2, c.requires.1)) ∙ inv.1),
-      search rules,
-      rw step (step_kept _ inv.3),
-    )
+    elim c.match-and_then.branch [
+      | in-Some w ↦
+          let t = steps_some c.loop-k.place c.and_then.result inv.1 c.and_then.ensures w.in-Some.step w.in-Some.is in
+          rw (w.out-is, w.place-is, w.lay.ensures, w.entry_bytes.ensures) (
+            fill_on c.loop-k.k c.args.n c.loop-k.place w.in-Some.step c.loop-k.out t.0 c.loop-k-test.true (omega (arith, c.loop-k.auto.out, c.requires.1)) ∙ inv.0,
+            t.1,
+            omega (arith, ap length t.0, inv.2),
+          )
+      | in_default w ↦ absurd (omega (arith, ap length (steps_none c.loop-k.place c.and_then.result inv.1 c.and_then.ensures w.in_default.is), inv.2, c.loop-k-test.true))
+    ]
 
 pub returns : goal.returns
 returns c =
-    sym (fill_end _ _ _ _ c.loop-k.invariant.0 c.loop-k-test.false) ∙ c.loop-k.invariant.1 ∙ fill_start _ _ _ c.requires.0
+    let inv = c.loop-k.invariant in
+    sym (fill_end c.loop-k.k c.args.n c.loop-k.place c.loop-k.out inv.2 c.loop-k-test.false) ∙ inv.0 ∙ fill_start c.args.n c.args.c c.args.out.now

@@ -1,29 +1,11 @@
-use mathlib.Core.Path.{◌≡◌, refl, ap, ◌∙◌}
-use borrow.Author.Rules.{rules}
-use native.Mathlib.Omega.{arith}
-use mathlib.Core.Path.{◌≡◌, refl}
-use Prim.Native.Nat.{ℕ, ◌-◌, ◌≤◌}
-use lib.ListN.{length, length-set}
-use Rattle.nor_part.specs.Responds.{mem_of, set_between}
-use Rattle.nor_part.proofs.Contents.{set_none, set_more}
+use Rattle.std.proofs.Common.{◌∙◌, ◌-◌, ap, List, ℕ, length-take, length-drop, arith, rules}
+use borrow.Rule.Slice.PartMut.{put_mid}
+use Rattle.nor_part.specs.Responds.{mem_of}
+use Rattle.nor_part.proofs.Contents.{fill_between}
 use Rattle.nor_part.proofs.memory.set_ff.Goals as goal
-
-pub loop-at-init : goal.loop-at-init
-loop-at-init c = (set_none c.args.from (mem_of c.args.memory.now), refl, omega arith, c.requires.0)
-
-pub loop-at-preserved : goal.loop-at-preserved
-loop-at-preserved c =
-    let a = c.args in
-    let l = c.loop-at in (
-      set_more a.from l.at (mem_of a.memory.now) l.memory l.invariant.2 (omega arith) l.invariant.0,
-      simp length-set l.invariant.1,
-      omega arith,
-      omega arith,
-    )
 
 pub returns : goal.returns
 returns c =
     let a = c.args in
-    let l = c.loop-at in
-    let e : l.at ≡ a.to = omega arith in
-    l.invariant.0 ∙ ap (λ (t : ℕ). set_between a.from t (mem_of a.memory.now)) e
+    ap (λ (part : List ℕ). mem_of (put_mid a.from (a.to - a.from) a.memory.now part)) (c.fill.ensures.after (search rules))
+    ∙ fill_between a.from a.to _ a.memory.now (search rules) (search rules) (simp (length-take, length-drop) (omega arith))

@@ -1,6 +1,0 @@
-use mathlib.Core.Path.{refl}
-use borrow.Author.Rules.{rules}
-use Rattle.flash.proofs.Session.read.Goals as goal
-
-pub returns : goal.returns
-returns c = rw (c.unless_runs.ensures, c.started.ensures) (c.begin_read.ensures _ refl)

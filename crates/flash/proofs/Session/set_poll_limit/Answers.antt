@@ -1,5 +1,0 @@
-use borrow.Author.Rules.{rules}
-use Rattle.flash.proofs.Session.set_poll_limit.Goals as goal
-
-pub returns : goal.returns
-returns c = rw (c.set.ensures, c.set_poll_limit.ensures)

@@ -1,5 +1,0 @@
-use Rattle.std.proofs.Common.{rules}
-use Rattle.phases.proofs.before_tx.Goals as goal
-
-pub returns : goal.returns
-returns c = rw (c.addressed_tx.ensures, c.minus.ensures)
