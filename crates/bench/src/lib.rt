@@ -145,7 +145,8 @@ fn type_of(size: u32, opcode: u8) -> EraseType {
     EraseType {
         size,
         opcode,
-        time: None,
+        timed: false,
+        time: 0,
     }
 }
 

@@ -9,10 +9,10 @@ ghost use Rattle.std.specs.Io.{ReadsAtMost};
 
 use dump_runs::{Comparison, DumpError, Next};
 use files::Broken;
-use show::Listing;
+use show::{Listing, Waiting};
 use std::error::Error;
 use std::fmt::{Display, Formatter};
-use std::io::{BufWriter, Read, Write};
+use std::io::{Read, Write};
 use std::rt::Files;
 use std::{fmt, io};
 
@@ -181,30 +181,24 @@ impl<'a, F: Read, W: Write> Comparing<'a, F, W> {
 }
 
 // After a write that failed nothing is written any more: the lines that wait are dropped. The system's reason goes to standard error.
-fn compare_open<R: Print + Eprint + AllocGlobal, F: Read + Drop>(
+fn compare_open<R: Print + Eprint, F: Read + Drop>(
     rt: &R,
     first: Dump<'_, F>,
     second: Dump<'_, F>,
-) -> io::Result<()> {
-    let out = BufWriter::with_capacity(rt.alloc(), 65536, io::writer(rt))?;
+) {
+    let mut space = [0u8; 65536];
     let mut comparing = Comparing {
         first,
         second,
         comparison: Comparison::new(),
-        listing: Listing::new(out),
+        listing: Listing::new(Waiting::new(rt, &mut space)),
     };
     if let Err(e) = comparing.write(rt) {
         files::fail(rt, b"standard output", &e);
-        let _ = comparing.listing.into_writer().into_parts();
     }
-    Ok(())
 }
 
-fn compare_named<R: Files + Print + Eprint + AllocGlobal>(
-    rt: &R,
-    one: &[u8],
-    two: &[u8],
-) -> io::Result<()> {
+fn compare_named<R: Files + Print + Eprint>(rt: &R, one: &[u8], two: &[u8]) -> io::Result<()> {
     let Some(first) = files::open(rt, one) else {
         return println!(rt;
             "error: the first dump cannot be read; see that the name is right, that it is a file and that you may read it"
@@ -215,7 +209,8 @@ fn compare_named<R: Files + Print + Eprint + AllocGlobal>(
             "error: the second dump cannot be read; see that the name is right, that it is a file and that you may read it"
         );
     };
-    compare_open(rt, Dump::new(first, one), Dump::new(second, two))
+    compare_open(rt, Dump::new(first, one), Dump::new(second, two));
+    Ok(())
 }
 
 fn help<R: Print>(rt: &R) -> io::Result<()> {

@@ -1,8 +1,44 @@
-// What is written: a line for each run, and a last line.
+// What is written: a line for each run, and a last line. Bytes wait in a space that the caller lends, and go out when it is full.
 use dump_runs::Run;
 use std::fmt::Display;
 use std::io;
 use std::io::Write;
+
+// Bytes on their way to standard output: the first len of the space wait. Fixed memory that is lent, so that a listing needs no heap.
+#[derive(Drop)]
+pub struct Waiting<'a, 'b, R> {
+    rt: &'a R,
+    space: &'b mut [u8],
+    len: usize,
+}
+
+impl<'a, 'b, R: Print> Waiting<'a, 'b, R> {
+    // Nothing waits.
+    pub fn new(rt: &'a R, space: &'b mut [u8]) -> Waiting<'a, 'b, R> {
+        Waiting { rt, space, len: 0 }
+    }
+}
+
+impl<'a, 'b, R: Print> Write for Waiting<'a, 'b, R> {
+    // What waits goes out first where the bytes do not fit beside it.
+    fn write(&mut self, bytes: &[u8]) -> io::Result<usize> {
+        if self.space.len().saturating_sub(self.len) < bytes.len() {
+            self.flush()?;
+        }
+        let mut rest = self.space.get_mut(self.len..).unwrap_or_default();
+        let n = rest.write(bytes)?;
+        self.len = self.len.saturating_add(n);
+        Ok(n)
+    }
+
+    fn flush(&mut self) -> io::Result<()> {
+        let rt = self.rt;
+        let n = self.len;
+        self.len = 0;
+        let waiting = self.space.get(..n).unwrap_or_default();
+        rt.write_all(waiting)
+    }
+}
 
 // Where the lines go, and how many runs and bytes of runs were listed so far.
 #[derive(Drop)]
@@ -22,10 +58,21 @@ impl<W: Write> Listing<W> {
         }
     }
 
+    // Writes where a run starts, its digits as one piece: a write that fails in mid-listing cuts between pieces.
+    fn address(&mut self, start: u64) -> io::Result<()> {
+        let mut digits = [0u8; 16];
+        let mut rest: &mut [u8] = &mut digits;
+        write!(rest, "{start:08x}")?;
+        let n = 16usize.saturating_sub(rest.len());
+        self.out.write_all(b"start 0x")?;
+        self.out.write_all(&digits[..n])
+    }
+
     // Writes a run's line: its start, its length, the index of each block that it meets, and a note.
     pub fn run(&mut self, run: Run, note: &str) -> io::Result<()> {
         let Run { start, len } = run;
-        write!(self.out, "start 0x{start:08x} length {len} blocks")?;
+        self.address(start)?;
+        write!(self.out, " length {len} blocks")?;
         let met = run.blocks_met();
         for k in met.first..met.first + met.count {
             write!(self.out, " {k}")?;
@@ -45,17 +92,17 @@ impl<W: Write> Listing<W> {
         }
     }
 
-    // Writes the last line of a listing that is not whole.
+    // Writes the last line of a listing that is not whole, as one piece.
     pub fn error<E: Display>(&mut self, why: &E) -> io::Result<()> {
-        writeln!(self.out, "error: {why}")
+        let mut line = [0u8; 128];
+        let mut rest: &mut [u8] = &mut line;
+        writeln!(rest, "error: {why}")?;
+        let n = 128usize.saturating_sub(rest.len());
+        self.out.write_all(&line[..n])
     }
 
     // Writes what waits.
     pub fn flush(&mut self) -> io::Result<()> {
         self.out.flush()
-    }
-
-    pub fn into_writer(self) -> W {
-        self.out
     }
 }

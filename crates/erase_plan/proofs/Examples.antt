@@ -1,5 +1,5 @@
 -- Worked examples, computed by the definitions.
-use Rattle.std.proofs.Common.{◌≡◌, ℕ, ◌+◌, Err, None, List, [], ◌∷◌, refl}
+use Rattle.std.proofs.Common.{◌≡◌, ℕ, ◌+◌, Err, false, List, [], ◌∷◌, refl}
 use Rattle.erase_plan.specs.declared.EraseType.{EraseType}
 use Rattle.erase_plan.specs.declared.EraseEntry.{EraseEntry}
 use Rattle.erase_plan.specs.Plan.{block_base, block_end, cover, beats, chosen_from, chosen, entry_from, entry_at, next_pos, plan_in, plan}
@@ -7,7 +7,7 @@ use Rattle.erase_plan.specs.Span.{span_start, span_end, span_check, sectors_chec
 
 -- a type and an entry of no known time
 abbrev pub untimed : ℕ → ℕ → EraseType
-untimed size opcode = record { size = size; opcode = opcode; time = None }
+untimed size opcode = record { size = size; opcode = opcode; timed = false; time = 0 }
 
 abbrev pub erase : ℕ → ℕ → ℕ → EraseEntry
 erase opcode size base = entry_from (untimed size opcode) base

@@ -1,5 +1,5 @@
 -- The plan: which blocks are erased so that a range is erased. A range is its first position and its end, one past its last.
-use Rattle.std.specs.Prelude.{ℕ, zero, suc, ◌+◌, ◌-◌, ◌*◌, ◌/◌, min, Bool, true, false, cond, ◌&&◌, ◌||◌, Option, Some, None, is_some, unwrap_or, List, [], ◌∷◌, ◌==◌, nat_lt}
+use Rattle.std.specs.Prelude.{ℕ, zero, suc, ◌+◌, ◌-◌, ◌*◌, ◌/◌, min, Bool, true, false, cond, ◌&&◌, ◌||◌, Option, Some, None, List, [], ◌∷◌, ◌==◌, nat_lt}
 use Rattle.erase_plan.specs.declared.EraseType.{EraseType}
 use Rattle.erase_plan.specs.declared.EraseEntry.{EraseEntry}
 use Rattle.erase_plan.specs.declared.NextEntry.{NextEntry}
@@ -32,7 +32,7 @@ chosen (t ∷ ts) pos end = chosen_from t ts pos end
 
 -- an entry is opcode, size, base and typical time, with a mark whether that is known
 abbrev pub entry_from : EraseType → ℕ → EraseEntry
-entry_from t base = record { opcode = t.opcode; timed = cond (is_some t.time) 1 0; size = t.size; base = base; time = unwrap_or t.time 0 }
+entry_from t base = record { opcode = t.opcode; timed = cond t.timed 1 0; size = t.size; base = base; time = t.time }
 
 -- the plan's entry at a position
 unfoldable pub entry_at : List EraseType → ℕ → ℕ → EraseEntry

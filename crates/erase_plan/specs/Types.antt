@@ -1,11 +1,11 @@
 -- The available erase types and their order.
-use Rattle.std.specs.Prelude.{ℕ, ◌+◌, Bool, true, false, cond, Option, Some, None, List, [], ◌∷◌, ◌==◌, flat_map, nat_le, nat_lt, slice_index_or}
+use Rattle.std.specs.Prelude.{ℕ, ◌+◌, Bool, true, false, cond, List, [], ◌∷◌, ◌==◌, flat_map, nat_le, nat_lt, slice_index_or}
 use Rattle.erase_plan.specs.declared.EraseType.{EraseType}
 use Rattle.erase_plan.specs.declared.EraseTypes.{EraseTypes}
 
 -- a slot that holds no type
 abbrev pub no_type : EraseType
-no_type = record { size = 0; opcode = 0; time = None }
+no_type = record { size = 0; opcode = 0; timed = false; time = 0 }
 
 -- a slot as a list: its type, or none where the size is 0
 unfoldable pub kept : EraseType → List EraseType
@@ -16,12 +16,8 @@ unfoldable pub present : EraseTypes → List EraseType
 present ts = flat_map kept ts.slots
 
 -- a time as a number to sort by, an absent one first
-abbrev pub rank_of : Option ℕ → ℕ
-rank_of None = 0
-rank_of (Some time) = time + 1
-
 unfoldable pub time_rank : EraseType → ℕ
-time_rank t = rank_of t.time
+time_rank t = cond t.timed (t.time + 1) 0
 
 -- the smaller of two numbers decides; where they are equal, what follows does
 abbrev pub first_by : ℕ → ℕ → Bool → Bool

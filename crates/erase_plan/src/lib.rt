@@ -2,7 +2,7 @@
 #![tactic(auto)]
 
 ghost use Rattle.std.specs.Prelude.{◌≡◌, ℕ, ◌+◌, ◌<◌, ◌≤◌, true, ◌||◌, List, [], ◌∷◌, ◌++◌, ◌==◌};
-ghost use Rattle.erase_plan.specs.Types.{in_order, kept, present, slots, sort, sorted_of};
+ghost use Rattle.erase_plan.specs.Types.{in_order, kept, present, slots, sort, sorted_of, time_rank};
 ghost use Rattle.erase_plan.specs.Plan.{entry_from, next_of, plan};
 ghost use Rattle.erase_plan.specs.Span.{span_check, survey_of};
 ghost use Rattle.erase_plan.specs.Words.{Each};
@@ -10,13 +10,14 @@ ghost use Rattle.erase_plan.specs.Good.{Present};
 ghost use Rattle.erase_plan.specs.Later.{OnAll};
 ghost use Rattle.erase_plan.specs.Marks.{is_power, is_single, are_powers, is_even};
 
-// One available erase type, with its typical time where that is known. The order is by size, opcode, time, an absent time first.
-// size 0: no such type.
-#[derive(Clone, Copy, PartialEq, Eq, PartialOrd, Ord)]
+// One available erase type. size 0: no such type. timed: whether the typical time is known; an entry's record has the number beside it in any case.
+// So mark and number stay two fields: an Option would lose the number that a session's parameters may have beside a mark that is off.
+#[derive(Clone, Copy, PartialEq, Eq)]
 pub struct EraseType {
     pub size: u32,
     pub opcode: u8,
-    pub time: Option<u32>,
+    pub timed: bool,
+    pub time: u32,
 }
 
 impl EraseType {
@@ -24,7 +25,8 @@ impl EraseType {
     pub const NONE: EraseType = EraseType {
         size: 0,
         opcode: 0,
-        time: None,
+        timed: false,
+        time: 0,
     };
 }
 
@@ -61,11 +63,40 @@ pub struct Surveyed {
     pub end: u64,
 }
 
+// A time as a number to sort by, an absent one first.
+fn time_rank(t: EraseType) -> u64
+    ensures { result ≡ time_rank t }
+{
+    if t.timed { t.time as u64 + 1 } else { 0 }
+}
+
+// Whether a may stand before b: sorted by size, opcode, time.
+fn in_order(a: EraseType, b: EraseType) -> bool
+    ensures { result ≡ in_order a b }
+{
+    if a.size < b.size {
+        return true;
+    }
+    if b.size < a.size {
+        return false;
+    }
+    if a.opcode < b.opcode {
+        return true;
+    }
+    if b.opcode < a.opcode {
+        return false;
+    }
+    time_rank(a) <= time_rank(b)
+}
+
 // Whether a type goes before what a slot holds: the slot is empty, or the order allows it.
 fn goes_before(t: EraseType, u: EraseType) -> bool
     ensures { result ≡ (u.size == 0 || in_order t u) }
 {
-    u.size == 0 || t <= u
+    if u.size == 0 {
+        return true;
+    }
+    in_order(t, u)
 }
 
 // A type put in its place, and what it displaces one slot further: where ts are the types of a list sorted, so is the result, with t.
@@ -150,10 +181,10 @@ fn entry_for(t: EraseType, base: u32) -> EraseEntry
 {
     EraseEntry {
         opcode: t.opcode,
-        timed: t.time.is_some() as u8,
+        timed: t.timed as u8,
         size: t.size,
         base,
-        time: t.time.unwrap_or(0),
+        time: t.time,
     }
 }
 

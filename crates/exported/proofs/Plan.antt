@@ -78,7 +78,7 @@ unfolding entry_at block_base
 entry_fits s w pos end h =
     let c : Narrow (chosen (types_of s) pos end) = chosen_narrow (types_of s) pos end (types_narrow s w) in
     let below : pos / (chosen (types_of s) pos end).size * (chosen (types_of s) pos end).size ≤ pos = div-mul-le_self pos (chosen (types_of s) pos end).size in
-    record { opcode = c.opcode; timed = mark (is_some (chosen (types_of s) pos end).time); size = c.size; base = omega (arith, below, h); time = c.time }
+    record { opcode = c.opcode; timed = mark (chosen (types_of s) pos end).timed; size = c.size; base = omega (arith, below, h); time = c.time }
   where
     mark : (b : Bool) → cond b 1 0 < 256
     mark true = omega arith

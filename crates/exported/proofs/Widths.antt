@@ -1,5 +1,5 @@
 -- The transaction that a whole session waits on has numbers of their widths.
-use Rattle.std.proofs.Common.{Some, None, Option, unwrap_or, is_some}
+use Rattle.std.proofs.Common.{Some, None, Option}
 use mathlib.Core.Path.{◌≡◌, refl, sym, subst}
 use mathlib.Core.Bool.{Bool, true, false, cond, not, ◌&&◌}
 use mathlib.Core.List.{List, [], ◌∷◌, ◌++◌}
@@ -48,7 +48,7 @@ use Rattle.rule.proofs.Steps.{rule_phase}
 pub record Narrow (t : EraseType) : Type 0 where
   pub opcode : t.opcode < 256
   pub size : t.size < 2 ^ 32
-  pub time : unwrap_or t.time 0 < 2 ^ 32
+  pub time : t.time < 2 ^ 32
 
 kept_narrow : (t : EraseType) → Narrow t → Each Narrow (kept t)
 unfolding kept
@@ -68,11 +68,7 @@ single_narrow : (size opcode : ℕ) → size < 2 ^ 32 → opcode < 256 → Each 
 single_narrow size opcode g h = four_narrow _ no_type no_type no_type (record { opcode = h; size = g; time = omega arith }) no_narrow no_narrow no_narrow
 
 inst_narrow : (i : SFDPEraseInst) → TypedInst i → Narrow (type_of i)
-inst_narrow i h = record { opcode = h.opcode; size = h.size; time = known i.timed }
-  where
-    known : (b : Bool) → unwrap_or (cond b (Some i.time_typ) None) 0 < 2 ^ 32
-    known true = h.time_typ
-    known false = omega arith
+inst_narrow i h = record { opcode = h.opcode; size = h.size; time = h.time_typ }
 
 pub types_narrow : (s : Session) → Whole s → Each Narrow (types_of s)
 unfolding available of_params of_settings
@@ -117,12 +113,12 @@ next_fine bytes (t ∷ ts) pos end h g =
     c : Narrow (chosen (t ∷ ts) pos end)
     c = chosen_narrow (t ∷ ts) pos end g
 
-    delayed : (b : Bool) → cond (eqb (cond b 1 0) 1) (unwrap_or (chosen (t ∷ ts) pos end).time 0 / 2) 0 < 2 ^ 32
+    delayed : (b : Bool) → cond (eqb (cond b 1 0) 1) ((chosen (t ∷ ts) pos end).time / 2) 0 < 2 ^ 32
     delayed true = omega (arith, c.time)
     delayed false = omega arith
 
     entry : Fine (block_tx bytes (Some (record { entry = entry_at (t ∷ ts) pos end; stop = next_pos (t ∷ ts) pos end - 1 })))
-    entry = record { opcode = c.opcode; addressed = h; reply = omega arith; from = omega arith; len = omega arith; delay = delayed (is_some (chosen (t ∷ ts) pos end).time) }
+    entry = record { opcode = c.opcode; addressed = h; reply = omega arith; from = omega arith; len = omega arith; delay = delayed (chosen (t ∷ ts) pos end).timed }
 
 bytes_most : (s : Session) → Whole s → s.settings.address_bytes ≤ 4
 bytes_most s w = (rule_meets s w.ruled).limits.address.1

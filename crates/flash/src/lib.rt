@@ -144,7 +144,9 @@ pub fn waits_on(s: Session, p: Phase) -> Transaction
 // ---- what the host is told
 
 // Of a session in a phase, with so many polls.
+// Never inlined: so that no session is copied for the sake of its event.
 #[tactic(auto, using(crate::proofs::Phases::event_runs), unfolding(crate::specs::Waits::event_of))]
+#[inline(never)]
 pub fn event_at(s: Session, p: Phase, polls: u64) -> Event
     ensures { result ≡ event_of (in_phase s p polls) p }
 {
@@ -157,6 +159,7 @@ pub fn event_at(s: Session, p: Phase, polls: u64) -> Event
 impl Session {
     // The session with its answer, or with the transaction that it waits on.
     #[tactic(auto, unfolding(crate::specs::Waits::told))]
+    #[inline(always)]
     pub fn tell(self) -> Stepped
         ensures { result ≡ told self }
     {

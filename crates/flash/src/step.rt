@@ -8,6 +8,7 @@ use phases::{Phase, ends, replies};
 
 // The session after a full reply.
 #[tactic(auto, unfolding(crate::specs::Steps::advanced))]
+#[inline(never)]
 fn advance(s: Session, n: u64, p: Phase, reply: &[u8], work: &[u8]) -> Session
     ensures { result ≡ advanced s n p reply.now work.now }
 {

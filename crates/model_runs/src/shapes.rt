@@ -202,10 +202,12 @@ fn vary(s: Shape, area: &mut [u8]) {
     let wide = if s.addressed == 4 { 4 } else { 0 };
     let bits = s.capacity.wrapping_mul(8).wrapping_sub(1).to_le_bytes();
     room::lay(area, 16, &[erase, opcode, wide, 0, bits[0], bits[1]]);
-    if let Erases::Types(types) = s.erases {
-        let bytes = types.map(|t| [t.exponent, t.opcode]);
-        room::lay(area, 44, bytes.as_flattened());
-    }
+    // An opcode whose size exponent is 0 is no type: where 4 KiB is alone, the first place has one.
+    let types = match s.erases {
+        Erases::Types(types) => types.map(|t| [t.exponent, t.opcode]),
+        _ => [[0, 0x20], [0, 0], [0, 0]],
+    };
+    room::lay(area, 44, types.as_flattened());
     room::lay(area, 56, &[s.page.trailing_zeros() as u8 % 16 * 16]);
     let (poll, reset) = if s.flagged { (8, 0x10) } else { (4, 0x08) };
     room::lay(area, 68, &[poll]);

@@ -12,8 +12,10 @@ fn started<F: FnOnce(Session) -> Stepped>(session: &mut [u8], event: &mut [u8], 
     requires { F.IsAlwaysCallable command }
     ensures { Started (F.post command) (opened_start session.old (length event.old)) session.old event.old result session.new event.new }
 {
-    let opened = crate::open_start(session, event.len());
-    crate::lent(opened, session, event, &mut [], |s, _| command(s))
+    match crate::open_start(session, event.len()) {
+        Err(refusal) => refusal.number(),
+        Ok(s) => crate::hand_back(command(s), session, event),
+    }
 }
 
 // room: the length of the out buffer that each step will be lent.
@@ -142,14 +144,10 @@ pub fn moss_flash_step(
 ) -> u8
     ensures { (result ≡ (called (opened_of session.old (length event.old)) session.old event.old work.old (λ s. step_of s (not (eqb failed 0)) reply.now work.old)).number) × (session.new ≡ (called (opened_of session.old (length event.old)) session.old event.old work.old (λ s. step_of s (not (eqb failed 0)) reply.now work.old)).session) × (event.new ≡ (called (opened_of session.old (length event.old)) session.old event.old work.old (λ s. step_of s (not (eqb failed 0)) reply.now work.old)).event) × (work.new ≡ (called (opened_of session.old (length event.old)) session.old event.old work.old (λ s. step_of s (not (eqb failed 0)) reply.now work.old)).room) }
 {
-    let opened = crate::open(session, event.len());
-    crate::lent(
-        opened,
-        session,
-        event,
-        work,
-        |s, work| s.step(failed != 0, reply, work),
-    )
+    match crate::open(session, event.len()) {
+        Err(refusal) => refusal.number(),
+        Ok(s) => crate::hand_back(s.step(failed != 0, reply, work), session, event),
+    }
 }
 
 // What the session waits on, or its last answer, told again.

@@ -52,18 +52,23 @@ pub fn to_words(s: Session) -> [u32; 64]
 {
     let params = parts::shown_params(s);
     let insts = params.erase_insts;
-    let mut w = [0u32; 64];
-    w[..6].copy_from_slice(&parts::settings_words(s.settings, s.known));
-    w[6..15].copy_from_slice(&parts::params_words(params));
-    w[15..20].copy_from_slice(&parts::inst_words(insts.inst1));
-    w[20..25].copy_from_slice(&parts::inst_words(insts.inst2));
-    w[25..30].copy_from_slice(&parts::inst_words(insts.inst3));
-    w[30..35].copy_from_slice(&parts::inst_words(insts.inst4));
-    w[35..47].copy_from_slice(&parts::timing_words(params.timing));
-    w[47] = numbers::low(s.polls);
-    w[48] = numbers::high(s.polls);
-    w[49..58].copy_from_slice(&phase_words::place_words(phase_words::place_of(s.phase)));
-    w
+    let [s0, s1, s2, s3, s4, s5] = parts::settings_words(s.settings, s.known);
+    let [p0, p1, p2, p3, p4, p5, p6, p7, p8] = parts::params_words(params);
+    let [a0, a1, a2, a3, a4] = parts::inst_words(insts.inst1);
+    let [b0, b1, b2, b3, b4] = parts::inst_words(insts.inst2);
+    let [c0, c1, c2, c3, c4] = parts::inst_words(insts.inst3);
+    let [d0, d1, d2, d3, d4] = parts::inst_words(insts.inst4);
+    let [t0, t1, t2, t3, t4, t5, t6, t7, t8, t9, t10, t11] = parts::timing_words(params.timing);
+    let (n0, n1) = (numbers::low(s.polls), numbers::high(s.polls));
+    let [q0, q1, q2, q3, q4, q5, q6, q7, q8] = phase_words::place_words(phase_words::place_of(
+        s.phase,
+    ));
+    // Named one by one: what is copied part by part costs a session a fill and nine copies.
+    [
+        s0, s1, s2, s3, s4, s5, p0, p1, p2, p3, p4, p5, p6, p7, p8, a0, a1, a2, a3, a4, b0, b1, b2,
+        b3, b4, c0, c1, c2, c3, c4, d0, d1, d2, d3, d4, t0, t1, t2, t3, t4, t5, t6, t7, t8, t9,
+        t10, t11, n0, n1, q0, q1, q2, q3, q4, q5, q6, q7, q8, 0, 0, 0, 0, 0, 0,
+    ]
 }
 
 // The session in 64 words.

@@ -67,5 +67,10 @@ pub fn word_at(b: &[u8], i: usize) -> u32
     requires { i ≤ 252 }
     ensures { result ≡ word_at b.now i }
 {
-    u32::from_le_bytes(std::array::from_fn(|k| b.get(i + k).copied().unwrap_or(0)))
+    // Where all four bytes are there, one test tells.
+    if i + 4 <= b.len() {
+        u32::from_le_bytes([b[i], b[i + 1], b[i + 2], b[i + 3]])
+    } else {
+        u32::from_le_bytes(std::array::from_fn(|k| b.get(i + k).copied().unwrap_or(0)))
+    }
 }

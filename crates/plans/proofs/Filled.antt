@@ -57,6 +57,10 @@ module _ (c : Cursor) (k : Kept c) where
   unfolding step_of
   step_some s e = some_step (next_of (present c.types) c.at (c.last + 1)) refl s e
 
+  -- a mark stays true
+  pub step_kept : (s : Step) → step_of c ≡ Some s → KeptOf s.next
+  step_kept s e = (step_some s e).kept
+
   no_step : (o : Option NextEntry) → next_of (present c.types) c.at (c.last + 1) ≡ o → step_from c o ≡ None → ahead c ≡ []
   no_step None f e = plan_nothing (present c.types) c.at (c.last + 1) f
   no_step (Some x) f e = cc

@@ -1,5 +1,5 @@
 -- The erase types of a query: sorted, and such that the laws of a plan hold.
-use Rattle.std.proofs.Common.{Ok, None}
+use Rattle.std.proofs.Common.{Ok, false}
 use Prim.Native.Nat.{ℕ, ◌≤◌, ◌<◌}
 use mathlib.Core.Path.{◌≡◌, refl, sym, subst}
 use mathlib.Core.Bool.{Bool, true, ◌&&◌, ◌||◌, not}
@@ -43,7 +43,7 @@ unfolding present
 none_none = rw (kept_none no_type refl)
 
 abbrev sole : ℕ → ℕ → EraseType
-sole size opcode = record { size = size; opcode = opcode; time = None }
+sole size opcode = record { size = size; opcode = opcode; timed = false; time = 0 }
 
 pub single_one : (size opcode : ℕ) → (size ≡ 0 → ⊥) → present (single size opcode) ≡ sole size opcode ∷ []
 unfolding present

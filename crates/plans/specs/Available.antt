@@ -1,6 +1,6 @@
 -- The erase types that a plan is made of: those of the parameters if any; else 4 KiB if it is supported and its opcode is not FF; else the erase
 -- size setting. Sorted by size, opcode, time, an absent time first.
-use Rattle.std.specs.Prelude.{ℕ, Bool, cond, ◌&&◌, not, eqb, Some, None}
+use Rattle.std.specs.Prelude.{ℕ, Bool, false, cond, ◌&&◌, not, eqb}
 use Rattle.sfdp.specs.declared.FlashParams.{FlashParams}
 use Rattle.sfdp.specs.declared.SFDPEraseInst.{SFDPEraseInst}
 use Rattle.sfdp.specs.declared.SFDPEraseInsts.{SFDPEraseInsts}
@@ -11,11 +11,11 @@ use Rattle.erase_plan.specs.Types.{no_type, four_of, sorted_of}
 
 -- an erase instruction of the parameters, with its typical time
 abbrev pub type_of : SFDPEraseInst → EraseType
-type_of i = record { size = i.size; opcode = i.opcode; time = cond i.timed (Some i.time_typ) None }
+type_of i = record { size = i.size; opcode = i.opcode; timed = i.timed; time = i.time_typ }
 
 -- a single type, its time unknown
 abbrev pub single : ℕ → ℕ → EraseTypes
-single size opcode = four_of (record { size = size; opcode = opcode; time = None }) no_type no_type no_type
+single size opcode = four_of (record { size = size; opcode = opcode; timed = false; time = 0 }) no_type no_type no_type
 
 -- those of the parameters, sorted
 unfoldable pub of_params : SFDPEraseInsts → EraseTypes

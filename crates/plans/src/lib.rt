@@ -79,7 +79,8 @@ fn type_of(i: SFDPEraseInst) -> EraseType
     EraseType {
         size: i.size,
         opcode: i.opcode,
-        time: i.timed.then_some(i.time_typ),
+        timed: i.timed,
+        time: i.time_typ,
     }
 }
 
@@ -90,7 +91,8 @@ fn single_type(size: u32, opcode: u8) -> EraseTypes
     let one = EraseType {
         size,
         opcode,
-        time: None,
+        timed: false,
+        time: 0,
     };
     EraseTypes {
         slots: [one, EraseType::NONE, EraseType::NONE, EraseType::NONE],

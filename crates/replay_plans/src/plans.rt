@@ -30,6 +30,10 @@ impl Known for Difference {
     fn place(self) -> usize {
         self as usize
     }
+
+    fn class_of(record: &[u8]) -> Class {
+        class_of(record)
+    }
 }
 
 pub type Class = tallies::Class<Difference>;
@@ -45,7 +49,8 @@ fn type_at(s: &[u8], i: u8) -> EraseType
     EraseType {
         size: number_at(s, at),
         opcode: byte_at(s, at as usize + 4),
-        time: (byte_at(s, at as usize + 5) == 1).then_some(number_at(s, at + 8)),
+        timed: byte_at(s, at as usize + 5) == 1,
+        time: number_at(s, at + 8),
     }
 }
 
@@ -124,7 +129,7 @@ fn compared(s: &[u8], at: u32, length: u64) -> Class {
     }
 }
 
-pub fn class_of(s: &[u8]) -> Class {
+fn class_of(s: &[u8]) -> Class {
     let at = number_at(s, 4);
     let length = number64_at(s, 8);
     if length <= 0x1_0000_0000 - at as u64 {

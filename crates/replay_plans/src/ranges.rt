@@ -28,6 +28,10 @@ impl Known for Difference {
     fn place(self) -> usize {
         self as usize
     }
+
+    fn class_of(record: &[u8]) -> Class {
+        class_of(record)
+    }
 }
 
 pub type Class = tallies::Class<Difference>;
@@ -82,7 +86,7 @@ fn refused(s: &[u8], verdict: Verdict, last: u32) -> Class {
     }
 }
 
-pub fn class_of(s: &[u8]) -> Class {
+fn class_of(s: &[u8]) -> Class {
     // A number of none of them is taken for a panic.
     let verdict = Verdict::try_from(byte_at(s, 2)).unwrap_or(Verdict::Panic);
     match settings_of(s).check_address_length(number_at(s, 4), number64_at(s, 8)) {

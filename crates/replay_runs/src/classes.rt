@@ -4,6 +4,8 @@ ghost use Rattle.std.specs.Prelude.{◌<◌};
 use crate::outcome::{
     ACCESS, Alike, BUSY, INVALID_ADDRESS, INVALID_SFDP_PARAMS, NO_SFDP, Outcome, Verdict,
 };
+use crate::play;
+use crate::play::Rooms;
 use crate::record::{Command, Fault, Memory, Record};
 use dwords::{byte_at, dword_at};
 use flash::Session;
@@ -97,6 +99,17 @@ impl fmt::Display for Difference {
 impl Known for Difference {
     fn place(self) -> usize {
         self as usize
+    }
+
+    // The record's run is played by the driver.
+    fn class_of(record: &[u8]) -> Class {
+        let r = Record::new(record);
+        let mut rooms = Rooms::new();
+        let fresh = play::with_area(&r, &mut rooms);
+        let before = play::with_settings(&r, fresh);
+        let begun = play::begun(play::start(&r, before, &mut rooms.work), false);
+        let p = play::played(&r, begun, &mut rooms);
+        class_of(&r, before, &Outcome::of(&r, p, &rooms.work))
     }
 }
 
@@ -340,7 +353,7 @@ fn differs(r: &Record, before: Session, ours: &Outcome, alike: Alike) -> Class {
 }
 
 // before: the session that the command starts from.
-pub fn class_of(r: &Record, before: Session, ours: &Outcome) -> Class {
+fn class_of(r: &Record, before: Session, ours: &Outcome) -> Class {
     if ours.summary() != r.summary {
         return Class::Wrong;
     }

@@ -11,21 +11,13 @@ mod play;
 mod record;
 mod wire;
 
-use crate::classes::Class;
-use crate::outcome::Outcome;
-use crate::play::Rooms;
-use crate::record::Record;
+use crate::classes::Difference;
 use std::io;
+use std::io::Read;
 use tallies::Totals;
 
-fn class_of(s: &[u8]) -> Class {
-    let r = Record::new(s);
-    let mut rooms = Rooms::new();
-    let fresh = play::with_area(&r, &mut rooms);
-    let before = play::with_settings(&r, fresh);
-    let begun = play::begun(play::start(&r, before, &mut rooms.work), false);
-    let p = play::played(&r, begun, &mut rooms);
-    classes::class_of(&r, before, &Outcome::of(&r, p, &rooms.work))
+fn totals<F: Read>(list: &mut F) -> io::Result<Totals> {
+    tallies::count::<Difference, F>(list, &mut [0; 256])
 }
 
 fn show<R: Print>(rt: &R, totals: &Totals) -> io::Result<()> {
@@ -44,7 +36,7 @@ fn show<R: Print>(rt: &R, totals: &Totals) -> io::Result<()> {
 
 fn main(rt: HostRuntime) -> io::Result<()> {
     match tallies::open(&rt, b"runs.bin") {
-        Some(mut list) => show(&rt, &tallies::count(&mut list, &mut [0; 256], class_of)?),
+        Some(mut list) => show(&rt, &totals(&mut list)?),
         None => Ok(()),
     }
 }

@@ -48,6 +48,10 @@ impl Known for Difference {
     fn place(self) -> usize {
         self as usize
     }
+
+    fn class_of(record: &[u8]) -> Class {
+        class_of(record)
+    }
 }
 
 pub type Class = tallies::Class<Difference>;
@@ -148,7 +152,7 @@ fn class_of_area(area: &[u8], want: &[u8]) -> Class {
 }
 
 // A record: an area, and 128 bytes that say what it holds.
-pub fn class_of(record: &[u8]) -> Class {
+fn class_of(record: &[u8]) -> Class {
     match record.split_last_chunk::<128>() {
         Some((area, want)) => class_of_area(area, want),
         None => Class::Unlisted,

@@ -7,19 +7,40 @@
 mod fields;
 mod judge;
 
-use sfdp::SFDPError;
+use sfdp::{FlashParams, SFDPError};
 use std::io;
 use std::io::Read;
 use tallies::Totals;
 
-// How many prefixes of some bytes are refused so, or give parameters, the empty one and the whole among them.
-fn prefixes(s: &[u8], refusal: Option<SFDPError>) -> usize {
-    (0..=s.len())
-        .filter(|n| {
-            s.get(..*n)
-                .is_some_and(|area| sfdp::read_area(area).err() == refusal)
-        })
-        .count()
+// How many prefixes give parameters, and how many are refused, by the refusal.
+#[derive(Clone, Copy, Default)]
+struct PrefixCounts {
+    params: u64,
+    no_sfdp: u64,
+    header: u64,
+    table: u64,
+}
+
+impl PrefixCounts {
+    fn add(&mut self, read: Result<FlashParams, SFDPError>) {
+        match read {
+            Ok(_) => self.params = self.params.wrapping_add(1),
+            Err(SFDPError::NoSFDP) => self.no_sfdp = self.no_sfdp.wrapping_add(1),
+            Err(SFDPError::InvalidSFDPHeader) => self.header = self.header.wrapping_add(1),
+            Err(SFDPError::InvalidSFDPParams) => self.table = self.table.wrapping_add(1),
+        }
+    }
+}
+
+// Every prefix of some bytes, the empty one and the whole among them: each is read once.
+fn prefixes(s: &[u8]) -> PrefixCounts {
+    let mut counts = PrefixCounts::default();
+    for n in 0..=s.len() {
+        if let Some(area) = s.get(..n) {
+            counts.add(sfdp::read_area(area));
+        }
+    }
+    counts
 }
 
 fn show_answers<R: Print>(rt: &R, totals: &Totals) -> io::Result<()> {
@@ -39,18 +60,15 @@ fn show_parts<R: Print>(rt: &R, totals: &Totals) -> io::Result<()> {
 }
 
 fn show_prefixes<R: Print>(rt: &R, s: &[u8]) -> io::Result<()> {
+    let counts = prefixes(s);
     println!(rt; "Every prefix of the first 1,024 bytes of parts.bin")?;
-    println!(rt; "parameters: {}", prefixes(s, None))?;
-    for refusal in [
-        SFDPError::NoSFDP,
-        SFDPError::InvalidSFDPHeader,
-        SFDPError::InvalidSFDPParams,
+    println!(rt; "parameters: {}", counts.params)?;
+    for (refusal, n) in [
+        (SFDPError::NoSFDP, counts.no_sfdp),
+        (SFDPError::InvalidSFDPHeader, counts.header),
+        (SFDPError::InvalidSFDPParams, counts.table),
     ] {
-        println!(rt;
-            "answer {}: {}",
-            refusal.number(),
-            prefixes(s, Some(refusal))
-        )?;
+        println!(rt; "answer {}: {n}", refusal.number())?;
     }
     Ok(())
 }
@@ -64,9 +82,12 @@ fn replay<R: Print, F: Read>(
     let mut record = [0u8; 1024];
     show_answers(
         rt,
-        &tallies::count(answers, &mut record[..256], judge::class_of)?,
+        &tallies::count::<judge::Difference, F>(answers, &mut record[..256])?,
     )?;
-    show_parts(rt, &tallies::count(parts, &mut record, judge::class_of)?)?;
+    show_parts(
+        rt,
+        &tallies::count::<judge::Difference, F>(parts, &mut record)?,
+    )?;
     let n = tallies::fill(again, &mut record)?;
     show_prefixes(rt, &record[..n])?;
     let answer = sfdp::answer_number(sfdp::read_area(&[0; 65536]));

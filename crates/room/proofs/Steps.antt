@@ -2,10 +2,11 @@
 use Prim.Native.Nat.{ℕ, zero, suc, ◌+◌, ◌*◌, ◌/◌, ◌≤◌, ◌<◌}
 use mathlib.Core.Path.{◌≡◌, refl, sym, ap, ◌∙◌}
 use mathlib.Core.Bool.{Bool, true, false, not, ◌&&◌}
+use mathlib.Core.Logic.{◌⊎◌, ⊎_elim, inl, inr}
 use mathlib.Core.List.{List, [], ◌∷◌}
 use native.Mathlib.Omega.{arith}
 use native.Mathlib.Numerals.{add-one}
-use borrow.Author.Tests.{eqb-true, eqb-false}
+use borrow.Author.Tests.{eqb-true, eqb-false, eq-eqb, ne_eqb}
 use lib.Dec.{eqb}
 use lib.ListN.{length, take, drop, get_or, length-drop}
 use lib.Seq.{drop-drop, length-take-le}
@@ -20,7 +21,7 @@ use Rattle.std.proofs.lemmas.Nat.{le_bytes_8}
 use Rattle.commands.specs.Commands.{blank}
 use Rattle.room.specs.Room.{differs_from}
 use Rattle.room.specs.declared.Difference.{Difference}
-use Rattle.room.proofs.Laws.{differs_eq, differs_ne}
+use Rattle.room.proofs.Laws.{le_or_lt, differs_eq, differs_ne}
 
 -- ---- the all-FF test
 and_assoc : (a b c : Bool) → a && (b && c) ≡ (a && b) && c
@@ -39,6 +40,52 @@ unfolding blank
 blank_parts zero l = refl
 blank_parts (suc n) [] = refl
 blank_parts (suc n) (x ∷ l) = ap (λ (b : Bool). eqb x 255 && b) (blank_parts n l) ∙ and_assoc (eqb x 255) (blank (take n l)) (blank (drop n l))
+
+blank_eight : (l : List ℕ) (i : ℕ) → blank (drop i l) ≡ blank (take 8 (drop i l)) && blank (drop (i + 8) l)
+blank_eight l i = blank_parts 8 (drop i l) ∙ ap (λ (d : List ℕ). blank (take 8 (drop i l)) && blank d) (drop-drop 8 i l)
+
+-- eight that are FF: it is for the rest to say. Eight that are not: no
+pub eight_yes : (l : List ℕ) (i : ℕ) → blank (take 8 (drop i l)) ≡ true → blank (drop i l) ≡ blank (drop (i + 8) l)
+eight_yes l i e = blank_eight l i ∙ ap (λ (b : Bool). b && blank (drop (i + 8) l)) e
+
+pub eight_no : (l : List ℕ) (i : ℕ) → blank (take 8 (drop i l)) ≡ false → blank (drop i l) ≡ false
+eight_no l i e = blank_eight l i ∙ ap (λ (b : Bool). b && blank (drop (i + 8) l)) e
+
+-- bytes as one number, the lowest first, and the number of as many FF
+abbrev joined : List ℕ → ℕ
+joined [] = 0
+joined (x ∷ l) = x + 256 * joined l
+
+abbrev top : List ℕ → ℕ
+top [] = 0
+top (x ∷ l) = 255 + 256 * top l
+
+abbrev Bytes : List ℕ → Type 0
+Bytes [] = Unit {0}
+Bytes (x ∷ l) = (x < 256) × Bytes l
+
+same_or_not : (m n : ℕ) → (m ≡ n) ⊎ (m ≡ n → ⊥)
+same_or_not m n =
+    ⊎_elim
+    (λ (h : m ≤ n). ⊎_elim (λ (g : n ≤ m). inl (omega arith)) (λ (g : m < n). inr (λ (e : m ≡ n). omega arith)) (le_or_lt n m))
+    (λ (h : n < m). inr (λ (e : m ≡ n). omega arith))
+    (le_or_lt m n)
+
+digit : (b r c s : ℕ) → b < 256 → c < 256 → eqb (b + 256 * r) (c + 256 * s) ≡ eqb b c && eqb r s
+digit b r c s hb hc =
+    ⊎_elim
+    (λ (e : b ≡ c). ⊎_elim
+    (λ (f : r ≡ s). rw (e, f, eq-eqb (c + 256 * s) (c + 256 * s) refl, eq-eqb c c refl, eq-eqb s s refl) refl)
+    (λ (f : r ≡ s → ⊥). rw (e, eq-eqb c c refl, ne_eqb r s f) (ne_eqb (c + 256 * r) (c + 256 * s) (λ (h : c + 256 * r ≡ c + 256 * s). f (omega arith))))
+    (same_or_not r s))
+    (λ (e : b ≡ c → ⊥). rw (ne_eqb b c e) (ne_eqb (b + 256 * r) (c + 256 * s) (λ (h : b + 256 * r ≡ c + 256 * s). e (omega arith))))
+    (same_or_not b c)
+
+-- the number is the largest exactly if all the bytes are FF, over the list and not over the number eight
+all_top : (l : List ℕ) → Bytes l → eqb (joined l) (top l) ≡ blank l
+unfolding blank
+all_top [] h = refl
+all_top (x ∷ l) h = digit x (joined l) 255 (top l) h.0 (omega arith) ∙ ap (λ (b : Bool). eqb x 255 && b) (all_top l h.1)
 
 -- so many FF
 abbrev ffs : ℕ → List ℕ

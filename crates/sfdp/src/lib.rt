@@ -381,6 +381,7 @@ impl TableDwords {
 
     // The erase instructions of dwords 8 to 10.
     #[tactic(auto, using(crate::proofs::Laws::first_low_fits, crate::proofs::Laws::second_fits), unfolding(crate::specs::Jesd216::erase_types))]
+    #[inline(always)]
     fn erase_insts(self, known: bool) -> SFDPEraseInsts
         requires { (sizes_fit self.d8 ≡ true) × (sizes_fit self.d9 ≡ true) }
         ensures { result ≡ erase_types self.d8 self.d9 known self.d10 }
@@ -440,8 +441,10 @@ impl TableDwords {
         }
     }
 
-    // The parameters of an accepted table (known: whether dwords 10 to 16 are read).
+    // The parameters of an accepted table (known: whether dwords 10 to 16 are read). Inlined, as are its erase instructions: those of no table are
+    // numbers of the compiled code, which every session without parameters would else work out anew.
     #[tactic(auto, unfolding(crate::specs::Jesd216::fields))]
+    #[inline(always)]
     fn params(self, minor: u8, known: bool) -> FlashParams
         requires { (density_fits self.d2 ≡ true) × (sizes_fit self.d8 ≡ true) × (sizes_fit self.d9 ≡ true) }
         ensures { result ≡ fields minor known self.d1 self.d2 self.d8 self.d9 self.d10 self.d11 self.d14 self.d16 }

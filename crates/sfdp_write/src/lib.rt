@@ -30,7 +30,7 @@ fn is_density(n: u64) -> bool
     if n <= 2_147_483_648 {
         0 < n
     } else {
-        n.is_power_of_two()
+        n.count_ones() == 1
     }
 }
 
@@ -55,7 +55,7 @@ fn is_none(i: SFDPEraseInst) -> bool
 fn is_one(multiplier: u8, i: SFDPEraseInst) -> bool
     ensures { result ≡ one_formed multiplier i }
 {
-    i.size.is_power_of_two()
+    i.size.count_ones() == 1
         && 1 < i.size
         && 0 < i.opcode
         && i.timed
@@ -136,7 +136,7 @@ fn is_timing(r: SFDPRawTimes, t: SFDPTiming) -> bool
 fn is_page(n: u32) -> bool
     ensures { result ≡ page_formed n }
 {
-    n.is_power_of_two() && n <= 32_768
+    n.count_ones() == 1 && n <= 32_768
 }
 
 fn is_write_enable(opcode: u8) -> bool

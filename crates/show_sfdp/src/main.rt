@@ -69,10 +69,12 @@ fn show_timing<R: Print>(rt: &R, t: SFDPTiming) -> io::Result<()> {
     let page = Time(t.page_prog_time_typ, t.page_prog_time_max);
     let first = Time(t.first_byte_prog_time_typ, t.first_byte_prog_time_max);
     let later = Time(t.succ_byte_prog_time_typ, t.succ_byte_prog_time_max);
-    println!(rt; "chip erase           {chip}")?;
-    println!(rt; "page program         {page}")?;
-    println!(rt; "first byte           {first}")?;
-    println!(rt; "later bytes          {later}")
+    // A line goes out with the break before it, as it always did.
+    print!(rt; "chip erase           {chip}")?;
+    print!(rt; "\npage program         {page}")?;
+    print!(rt; "\nfirst byte           {first}")?;
+    print!(rt; "\nlater bytes          {later}")?;
+    println!(rt)
 }
 
 fn show_extended<R: Print>(rt: &R, p: FlashParams) -> io::Result<()> {

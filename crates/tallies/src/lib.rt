@@ -15,6 +15,9 @@ use std::rt::Files;
 pub trait Known: Copy + Display {
     fn place(self) -> usize
         ensures { result < 32 };
+
+    // The class of a record of the program's list.
+    fn class_of(record: &[u8]) -> Class<Self>;
 }
 
 // A record's class.
@@ -144,19 +147,13 @@ pub fn fill<F: Read>(list: &mut F, buf: &mut [u8]) -> io::Result<usize>
 
 // Reads a list to its end, in records as long as the buffer, and counts each by its class.
 // A proved loop has to end, and nothing says that a file does: at most 16,777,216 records are read.
-pub fn count<D: Known, F: Read, C: Fn(&[u8]) -> Class<D>>(
-    list: &mut F,
-    record: &mut [u8],
-    class_of: C,
-) -> io::Result<Totals>
-    requires { C.IsAlwaysCallable class_of }
-{
+pub fn count<D: Known, F: Read>(list: &mut F, record: &mut [u8]) -> io::Result<Totals> {
     let mut totals = Totals::new();
     for _ in 0..16_777_216 {
         if fill(list, record)? < record.len() {
             break;
         }
-        totals.add(class_of(record));
+        totals.add(D::class_of(record));
     }
     Ok(totals)
 }
