@@ -20,15 +20,23 @@ impl<'a, 'b, R: Print> Waiting<'a, 'b, R> {
 }
 
 impl<'a, 'b, R: Print> Write for Waiting<'a, 'b, R> {
-    // What waits goes out first where the bytes do not fit beside it.
     fn write(&mut self, bytes: &[u8]) -> io::Result<usize> {
+        self.write_all(bytes)?;
+        Ok(bytes.len())
+    }
+
+    // What waits goes out first where the bytes do not fit beside it.
+    fn write_all(&mut self, bytes: &[u8]) -> io::Result<()> {
         if self.space.len().saturating_sub(self.len) < bytes.len() {
             self.flush()?;
         }
-        let mut rest = self.space.get_mut(self.len..).unwrap_or_default();
-        let n = rest.write(bytes)?;
-        self.len = self.len.saturating_add(n);
-        Ok(n)
+        let end = self.len.saturating_add(bytes.len());
+        let Some(room) = self.space.get_mut(self.len..end) else {
+            return Err(io::Error::from(io::ErrorKind::WriteZero));
+        };
+        room.copy_from_slice(bytes);
+        self.len = end;
+        Ok(())
     }
 
     fn flush(&mut self) -> io::Result<()> {
