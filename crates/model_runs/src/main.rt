@@ -23,9 +23,18 @@ fn many(count: u64, flaw: Option<Flaw>) -> Totals {
     totals
 }
 
+// A line in three pieces.
+fn show_fitting<R: Print>(rt: &R, t: &Totals) -> io::Result<()> {
+    let (sequences, setters, commands) = (t.sequences, t.setters, t.commands);
+    let (accepted, refused) = (t.accepted, t.refused);
+    let (transactions, mismatches) = (t.transactions, t.mismatches);
+    print!(rt; "fitting parts: sequences {sequences}, setters {setters}, commands {commands}")?;
+    print!(rt; ", accepted {accepted}, refused {refused}")?;
+    println!(rt; ", transactions {transactions}, mismatches {mismatches}")
+}
+
 fn main(rt: HostRuntime) -> io::Result<()> {
-    let fitting = many(512, None);
-    println!(rt; "fitting parts: {fitting}")?;
+    show_fitting(&rt, &many(512, None))?;
     for flaw in [
         Flaw::Poll,
         Flaw::Address,

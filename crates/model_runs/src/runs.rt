@@ -3,7 +3,6 @@ use flash::Session;
 use nor_part::State;
 use part_host::Play;
 use part_host::source::Source;
-use std::fmt;
 
 // broken: sequences with a mismatch. mismatches: commands after which something is not as replayed.
 #[derive(Clone, Copy, Default)]
@@ -57,20 +56,6 @@ impl Totals {
         add(&mut self.refused, v.refused as u64);
         add(&mut self.transactions, transactions);
         add(&mut self.mismatches, !v.good as u64);
-    }
-}
-
-impl fmt::Display for Totals {
-    fn fmt<W: fmt::Write>(&self, f: &mut fmt::Formatter<W>) -> fmt::Result {
-        let (sequences, setters, commands) = (self.sequences, self.setters, self.commands);
-        let (accepted, refused) = (self.accepted, self.refused);
-        let (transactions, mismatches) = (self.transactions, self.mismatches);
-        write!(
-            f,
-            "sequences {sequences}, setters {setters}, commands {commands}, "
-        )?;
-        write!(f, "accepted {accepted}, refused {refused}, ")?;
-        write!(f, "transactions {transactions}, mismatches {mismatches}")
     }
 }
 

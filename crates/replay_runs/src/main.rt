@@ -27,9 +27,10 @@ fn show<R: Print>(rt: &R, totals: &Totals) -> io::Result<()> {
         "agree in answer, transactions, polls, bytes and settings",
         &classes::DIFFERENCES,
     )?;
-    println!(rt;
-        "ours is not what docs/SCOPE.md's rules give: {}",
-        totals.wrong
+    tallies::line(
+        rt,
+        &"ours is not what docs/SCOPE.md's rules give",
+        totals.wrong,
     )?;
     totals.show_first(rt)
 }

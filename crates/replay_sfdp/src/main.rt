@@ -55,20 +55,21 @@ fn show_answers<R: Print>(rt: &R, totals: &Totals) -> io::Result<()> {
 
 fn show_parts<R: Print>(rt: &R, totals: &Totals) -> io::Result<()> {
     println!(rt; "Real parts, parts.bin")?;
-    println!(rt; "agree in every field: {}", totals.same)?;
-    println!(rt; "differ: {}", totals.seen.wrapping_sub(totals.same))
+    tallies::line(rt, &"agree in every field", totals.same)?;
+    tallies::line(rt, &"differ", totals.seen.wrapping_sub(totals.same))
 }
 
 fn show_prefixes<R: Print>(rt: &R, s: &[u8]) -> io::Result<()> {
     let counts = prefixes(s);
     println!(rt; "Every prefix of the first 1,024 bytes of parts.bin")?;
-    println!(rt; "parameters: {}", counts.params)?;
+    tallies::line(rt, &"parameters", counts.params)?;
     for (refusal, n) in [
         (SFDPError::NoSFDP, counts.no_sfdp),
         (SFDPError::InvalidSFDPHeader, counts.header),
         (SFDPError::InvalidSFDPParams, counts.table),
     ] {
-        println!(rt; "answer {}: {n}", refusal.number())?;
+        print!(rt; "answer {}: ", refusal.number())?;
+        println!(rt; "{n}")?;
     }
     Ok(())
 }
@@ -91,7 +92,7 @@ fn replay<R: Print, F: Read>(
     let n = tallies::fill(again, &mut record)?;
     show_prefixes(rt, &record[..n])?;
     let answer = sfdp::answer_number(sfdp::read_area(&[0; 65536]));
-    println!(rt; "65,536 zero bytes, answer: {answer}")
+    tallies::line(rt, &"65,536 zero bytes, answer", answer as u64)
 }
 
 fn main(rt: HostRuntime) -> io::Result<()> {

@@ -83,18 +83,26 @@ impl Totals {
         differences: &[D],
     ) -> io::Result<()> {
         println!(rt; "{title}")?;
-        println!(rt; "{agree}: {}", self.same)?;
+        line(rt, &agree, self.same)?;
         for difference in differences {
-            let n = self.known[difference.place()];
-            println!(rt; "{difference}: {n}")?;
+            line(rt, difference, self.known[difference.place()])?;
         }
-        println!(rt; "differ and are on no list: {}", self.unlisted)
+        line(rt, &"differ and are on no list", self.unlisted)
     }
 
     pub fn show_first<R: Print>(&self, rt: &R) -> io::Result<()> {
-        let first = self.first.unwrap_or(0);
-        println!(rt; "number of the first of those, 0 for none: {first}")
+        line(
+            rt,
+            &"number of the first of those, 0 for none",
+            self.first.unwrap_or(0),
+        )
     }
+}
+
+// A line with a count: the words go out, then the number.
+pub fn line<R: Print, L: Display>(rt: &R, words: &L, n: u64) -> io::Result<()> {
+    print!(rt; "{words}: ")?;
+    println!(rt; "{n}")
 }
 
 // Opens a list, or says on standard error why it cannot. No files::open: that also reads, and refuses here what fails in count, with a status.
