@@ -89,7 +89,7 @@ fn goes_on(passed: u64, rest: u64) -> bool
 }
 
 // Goes along what both parts have from an index on, to the first run that ends or to the end of the shorter one.
-#[tactic(auto, using(crate::proofs::Scans::steps))]
+#[tactic(auto, using(crate::proofs::Scans::places))]
 fn scan(c: Comparison, p: &[u8], q: &[u8], from: usize) -> Next
     requires short_first { c.start + c.len + c.first + length p.now < most }
     requires short_second { c.start + c.len + c.second + length q.now < most }
@@ -98,8 +98,9 @@ fn scan(c: Comparison, p: &[u8], q: &[u8], from: usize) -> Next
 {
     let mut start = c.start;
     let mut len = c.len;
-    for (i, (x, y)) in p.iter().zip(q).enumerate() {
-        if x != y {
+    // By an index in a range: a walk along both parts tests the length of each at every byte.
+    for i in 0..p.len().min(q.len()) {
+        if p[i] != q[i] {
             len += 1;
         } else if 0 < len {
             return Next::Found {

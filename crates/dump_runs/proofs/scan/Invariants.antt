@@ -1,4 +1,4 @@
-use Rattle.std.proofs.Common.{◌≡◌, ◌+◌, length}
+use Rattle.std.proofs.Common.{◌≡◌, ◌+◌, drop}
 use Rattle.dump_runs.specs.Steps.{scan_of}
 use Rattle.dump_runs.proofs.scan.Given as goal
 
@@ -6,8 +6,6 @@ use Rattle.dump_runs.proofs.scan.Given as goal
 abbrev pub invariant-loop-i : goal.invariant-loop-i
 invariant-loop-i l =
     record {
-      same : scan_of l.c.first l.c.second l.start l.len (l.from + l.i-iterator.count) l.i-iterator.iter.a.rest.now l.i-iterator.iter.b.rest.now ≡ scan_of l.c.first l.c.second l.c.start l.c.len l.from l.p l.q;
-      moved : l.start + l.len ≡ l.c.start + l.c.len + l.i-iterator.count;
-      in_p : length l.i-iterator.iter.a.rest.now + l.i-iterator.count ≡ length l.p;
-      in_q : length l.i-iterator.iter.b.rest.now + l.i-iterator.count ≡ length l.q;
+      same : scan_of l.c.first l.c.second l.start l.len (l.from + l.i) (drop l.i l.p) (drop l.i l.q) ≡ scan_of l.c.first l.c.second l.c.start l.c.len l.from l.p l.q;
+      moved : l.start + l.len ≡ l.c.start + l.c.len + l.i;
     }
