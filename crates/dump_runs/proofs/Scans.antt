@@ -82,11 +82,9 @@ place_ends f g s n i k x y a b h first second =
     (rw (length-drop k b) second)
 
 -- the turns, for the check
-pub ruleset steps = (step_differs, step_equal, step_ends)
-
 pub ruleset places = (place_differs, place_equal, place_closes)
 
--- ---- the same where both counts are one
+-- ---- the same where the index is the place
 module _ (f g s n i : ℕ) (a b : List ℕ) where
   pub turn_stops : min (length a) (length b) ≤ i
       → scan_of f g s n i (drop i a) (drop i b) ≡ More (record { start = s; len = n; first = f + (length a - i); second = g + (length b - i) })
