@@ -3,6 +3,7 @@ pub mod Multiples
 pub mod Ordering
 pub mod Slots
 pub mod Choice
+pub mod Derived
 pub mod Steps
 pub mod Entries
 pub mod Planned

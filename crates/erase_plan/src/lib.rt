@@ -12,7 +12,9 @@ ghost use Rattle.erase_plan.specs.Marks.{is_power, is_single, are_powers, is_eve
 
 // One available erase type. size 0: no such type. timed: whether the typical time is known; an entry's record has the number beside it in any case.
 // So mark and number stay two fields: an Option would lose the number that a session's parameters may have beside a mark that is off.
-#[derive(Clone, Copy, PartialEq, Eq)]
+// The derived order is by size, opcode, time, an absent time first (by_time), and so the plan's own (le_in_order), where no number stands beside a mark
+// that is off. Plans sort by in_order, to which such a number is nothing.
+#[derive(Clone, Copy, PartialEq, Eq, PartialOrd, Ord)]
 pub struct EraseType {
     pub size: u32,
     pub opcode: u8,

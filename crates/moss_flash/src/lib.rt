@@ -97,7 +97,7 @@ pub fn hand_back(x: Stepped, session: &mut [u8], event: &mut [u8]) -> u8
 }
 
 // A command of a session that is let in, lent a buffer: what it hands back is packed and written. A refused call changes nothing.
-fn lent<F: FnOnce(Session, &mut [u8]) -> Stepped>(
+pub fn lent<F: FnOnce(Session, &mut [u8]) -> Stepped>(
     opened: Result<Session, Refusal>,
     session: &mut [u8],
     event: &mut [u8],

@@ -10,7 +10,7 @@ use std::io;
 use std::io::Read;
 
 fn replay_ranges<R: Print, F: Read>(rt: &R, list: &mut F) -> io::Result<()> {
-    let totals = tallies::count::<ranges::Difference, F>(list, &mut [0; 32])?;
+    let totals = tallies::count_classed::<ranges::Difference, F>(list, &mut [0; 32])?;
     totals.show(
         rt,
         "The Rust's answers, ranges.bin",
@@ -21,7 +21,7 @@ fn replay_ranges<R: Print, F: Read>(rt: &R, list: &mut F) -> io::Result<()> {
 }
 
 fn replay_plans<R: Print, F: Read>(rt: &R, list: &mut F) -> io::Result<()> {
-    let totals = tallies::count::<plans::Difference, F>(list, &mut [0; 256])?;
+    let totals = tallies::count_classed::<plans::Difference, F>(list, &mut [0; 256])?;
     totals.show(
         rt,
         "The Rust's answers, plans.bin",

@@ -5,7 +5,7 @@ use crate::ranges::Verdict;
 use dwords::{byte_at, number_at};
 use erase_plan::{EraseEntry, EraseType, EraseTypes, NextEntry};
 use std::fmt;
-use tallies::{Known, number64_at};
+use tallies::{Classed, Known, number64_at};
 
 // Where the Rust is known to part from docs/SCOPE.md.
 #[derive(Clone, Copy)]
@@ -30,7 +30,9 @@ impl Known for Difference {
     fn place(self) -> usize {
         self as usize
     }
+}
 
+impl Classed for Difference {
     fn class_of(record: &[u8]) -> Class {
         class_of(record)
     }

@@ -2,7 +2,7 @@
 use dwords::{byte_at, number_at};
 use settings::Settings;
 use std::fmt;
-use tallies::{Known, is_one_past, number64_at};
+use tallies::{Classed, Known, is_one_past, number64_at};
 
 // Where the Rust is known to part from docs/SCOPE.md.
 #[derive(Clone, Copy)]
@@ -28,7 +28,9 @@ impl Known for Difference {
     fn place(self) -> usize {
         self as usize
     }
+}
 
+impl Classed for Difference {
     fn class_of(record: &[u8]) -> Class {
         class_of(record)
     }

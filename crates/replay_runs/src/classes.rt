@@ -10,7 +10,7 @@ use crate::record::{Command, Fault, Memory, Record};
 use dwords::{byte_at, dword_at};
 use flash::Session;
 use std::fmt;
-use tallies::{Known, is_one_past, is_table_short, table_of};
+use tallies::{Classed, Known, is_one_past, is_table_short, table_of};
 
 // Where the Rust is known to part from docs/SCOPE.md.
 #[derive(Clone, Copy)]
@@ -100,7 +100,9 @@ impl Known for Difference {
     fn place(self) -> usize {
         self as usize
     }
+}
 
+impl Classed for Difference {
     // The record's run is played by the driver.
     fn class_of(record: &[u8]) -> Class {
         let r = Record::new(record);

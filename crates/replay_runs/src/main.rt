@@ -17,7 +17,7 @@ use std::io::Read;
 use tallies::Totals;
 
 fn totals<F: Read>(list: &mut F) -> io::Result<Totals> {
-    tallies::count::<Difference, F>(list, &mut [0; 256])
+    tallies::count_classed::<Difference, F>(list, &mut [0; 256])
 }
 
 fn show<R: Print>(rt: &R, totals: &Totals) -> io::Result<()> {

@@ -3,7 +3,7 @@ use crate::fields;
 use dwords::{byte_at, dword_at};
 use sfdp::{FlashParams, SFDPError};
 use std::fmt;
-use tallies::{Known, is_table_short, table_of};
+use tallies::{Classed, Known, is_table_short, table_of};
 
 // Where the Rust is known to part from docs/SCOPE.md.
 #[derive(Clone, Copy)]
@@ -48,7 +48,9 @@ impl Known for Difference {
     fn place(self) -> usize {
         self as usize
     }
+}
 
+impl Classed for Difference {
     fn class_of(record: &[u8]) -> Class {
         class_of(record)
     }

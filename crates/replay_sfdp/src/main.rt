@@ -83,11 +83,11 @@ fn replay<R: Print, F: Read>(
     let mut record = [0u8; 1024];
     show_answers(
         rt,
-        &tallies::count::<judge::Difference, F>(answers, &mut record[..256])?,
+        &tallies::count_classed::<judge::Difference, F>(answers, &mut record[..256])?,
     )?;
     show_parts(
         rt,
-        &tallies::count::<judge::Difference, F>(parts, &mut record)?,
+        &tallies::count_classed::<judge::Difference, F>(parts, &mut record)?,
     )?;
     let n = tallies::fill(again, &mut record)?;
     show_prefixes(rt, &record[..n])?;

@@ -15,7 +15,10 @@ use std::rt::Files;
 pub trait Known: Copy + Display {
     fn place(self) -> usize
         ensures { result < 32 };
+}
 
+// Differences that also say which of them a record has.
+pub trait Classed: Known {
     // The class of a record of the program's list.
     fn class_of(record: &[u8]) -> Class<Self>;
 }
@@ -153,9 +156,28 @@ pub fn fill<F: Read>(list: &mut F, buf: &mut [u8]) -> io::Result<usize>
     files::fill_or_cut(list, buf).map_err(|cut| cut.why)
 }
 
-// Reads a list to its end, in records as long as the buffer, and counts each by its class.
+// Reads a list to its end, in records as long as the buffer, and counts each by the class that a closure gives it.
 // A proved loop has to end, and nothing says that a file does: at most 16,777,216 records are read.
-pub fn count<D: Known, F: Read>(list: &mut F, record: &mut [u8]) -> io::Result<Totals> {
+pub fn count<D: Known, F: Read, C: Fn(&[u8]) -> Class<D>>(
+    list: &mut F,
+    record: &mut [u8],
+    class_of: C,
+) -> io::Result<Totals>
+    requires { C.IsAlwaysCallable class_of }
+{
+    let mut totals = Totals::new();
+    for _ in 0..16_777_216 {
+        if fill(list, record)? < record.len() {
+            break;
+        }
+        totals.add(class_of(record));
+    }
+    Ok(totals)
+}
+
+// The same by the class that the differences say themselves, which asks nothing of its caller. The replay programs go through it: so it has its own
+// loop, and does not hand count a closure.
+pub fn count_classed<D: Classed, F: Read>(list: &mut F, record: &mut [u8]) -> io::Result<Totals> {
     let mut totals = Totals::new();
     for _ in 0..16_777_216 {
         if fill(list, record)? < record.len() {
