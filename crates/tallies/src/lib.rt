@@ -175,8 +175,8 @@ pub fn count<D: Known, F: Read, C: Fn(&[u8]) -> Class<D>>(
     Ok(totals)
 }
 
-// The same by the class that the differences say themselves, which asks nothing of its caller. The replay programs go through it: so it has its own
-// loop, and does not hand count a closure.
+// The same by the class that the differences say themselves, which asks nothing of its caller. It has a loop of its own, and hands count no closure,
+// so that the replay programs, which go through it, keep the code that they ran.
 pub fn count_classed<D: Classed, F: Read>(list: &mut F, record: &mut [u8]) -> io::Result<Totals> {
     let mut totals = Totals::new();
     for _ in 0..16_777_216 {
